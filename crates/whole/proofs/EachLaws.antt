@@ -1,0 +1,33 @@
+-- Laws of `Each`: what holds of each one of a list.
+use Prim.Native.Nat.{ℕ, zero, suc, _<_}
+use mathlib.Core.List.{List, [], _∷_, _++_}
+use native.Mathlib.Omega.{arith}
+use lib.ListN.{length, getD}
+use Rattle.whole.specs.Sums.{Each}
+
+module _ {B : Type 0} (P : B → Type 0) where
+  pub each-at : (bs : List B) (i : ℕ) (d : B) → Each P bs → i < length bs → P (getD bs i d)
+  unfolding Each
+  each-at [] i d e h = absurd (omega arith)
+  each-at (b ∷ bs) zero d e h = e .0
+  each-at (b ∷ bs) (suc i) d e h = each-at bs i d (e .1) (omega arith)
+
+  pub each-append : (xs ys : List B) → Each P xs → Each P ys → Each P (xs ++ ys)
+  unfolding Each
+  each-append [] ys e f = f
+  each-append (x ∷ xs) ys e f = (e .0, each-append xs ys (e .1) f)
+
+  pub each-front : (xs ys : List B) → Each P (xs ++ ys) → Each P xs
+  unfolding Each
+  each-front [] ys e = tt
+  each-front (x ∷ xs) ys e = (e .0, each-front xs ys (e .1))
+
+  pub each-back : (xs ys : List B) → Each P (xs ++ ys) → Each P ys
+  unfolding Each
+  each-back [] ys e = e
+  each-back (x ∷ xs) ys e = each-back xs ys (e .1)
+
+  pub each-then : (Q : B → Type 0) (bs : List B) → ((b : B) → P b → Q b) → Each P bs → Each Q bs
+  unfolding Each
+  each-then Q [] f e = tt
+  each-then Q (b ∷ bs) f e = (f b (e .0), each-then Q bs f (e .1))
