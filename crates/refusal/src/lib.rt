@@ -1,0 +1,1 @@
+// Refusals in order: definitions and laws only.
