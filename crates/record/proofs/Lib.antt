@@ -1,0 +1,5 @@
+pub mod Edges
+pub mod FieldLaws
+pub mod Lengths
+pub mod Literals
+pub mod ReadThenWrite

@@ -1,0 +1,7 @@
+pub mod Computing
+pub mod Fields
+pub mod Layouts
+pub mod Ranges
+pub mod Readers
+pub mod Samples
+pub mod Writers
