@@ -4,14 +4,14 @@
 -- Neighbours that no input can have both: bytes that end early and bytes after the record; ms absent and ms out of range.
 use mathlib.Core.Path.{_≡_, refl}
 use Prim.Native.Nat.{ℕ, _+_, _/_, _%_}
-use mathlib.Core.Bool.{Bool, true, false, _&&_}
+use mathlib.Core.Bool.{true, false, _&&_}
 use mathlib.Core.List.{List, [], _∷_, _++_}
 use lib.Dec.{eqb}
 use lib.IntN.{ℤ, pos, negℤ}
-use lib.ListN.{length, replicate, take}
+use lib.ListN.{replicate, take}
 use Rattle.refusal.specs.Tests.{Told, number, place, first}
 use Rattle.record.specs.Computing.{computing}
-use Rattle.record.specs.Ranges.{Range, within, state-entries}
+use Rattle.record.specs.Ranges.{within, state-entries}
 use Rattle.record.specs.Readers.{reading, loop-reader, certificate-reader}
 use Rattle.record.specs.Samples.{P, S1, S7, S10}
 use Rattle.record.specs.Writers.{writing, writer}

@@ -1,21 +1,21 @@
 -- Fields both ways: bytes to numbers and back, for one form, for one field and for any row of fields. The two round trips of a
 -- record rest on `bytesOf-values` and `values-bytesOf`.
-use mathlib.Core.Path.{_≡_, refl, sym, ap, ap₂, _∙_}
-use Prim.Native.Nat.{ℕ, suc, _+_, _≤_, _<_, _^_}
-use mathlib.Core.Bool.{Bool, true, false, _&&_, false≢true}
+use mathlib.Core.Path.{_≡_, refl, ap, ap₂}
+use Prim.Native.Nat.{ℕ, zero, suc, _+_, _≤_, _<_, _^_}
+use mathlib.Core.Bool.{Bool, true, false, false≢true}
 use mathlib.Core.List.{List, [], _∷_, _++_, append-assoc}
 use native.Mathlib.Omega.{arith}
-use lib.Dec.{T, ltb, leb→le, ltb→lt}
+use lib.Dec.{T, ltb}
 use lib.IntN.{ℤ, pos, negsuc, natAbs}
-use lib.ListN.{length, take, drop, length-append, length-take, length-drop, take-append-drop}
+use lib.ListN.{length, getD, take, drop, length-append, length-drop, take-append-drop}
 use lib.Seq.{length-take-le, take-at, drop-at, drop-drop}
 use lib.Signed.{mag, leZ, nonNeg}
 use borrow.Author.Tests.{lt-ltb, ltb-true, leb-true}
-use Rattle.endian.specs.Numbers.{Bytes, little, digits, signed, unsigned}
+use Rattle.endian.specs.Numbers.{Bytes, little, unsigned}
 use Rattle.endian.proofs.Laws.{bytes-take, bytes-drop, length-digits, little-digits, digits-little, little-small, signed-unsigned, unsigned-small, unsigned-signed}
 use Rattle.refusal.proofs.TestLaws.{both-true, true-both}
 use Rattle.record.specs.Fields.{Form, u16, i16, i32, width, number, stored, holds, Field, widths, values, bytesOf, in-range}
-use Rattle.record.specs.Ranges.{Range, within}
+use Rattle.record.specs.Ranges.{within}
 
 -- ---- one form
 
@@ -55,7 +55,7 @@ number-stored i32 z h =
 
 -- ---- one field: its form holds every number of its range
 
-is-true : (b : Bool) → T b → b ≡ true
+pub is-true : (b : Bool) → T b → b ≡ true
 is-true true t = refl
 is-true false t = absurd t
 
@@ -147,3 +147,20 @@ values-bytesOf (f ∷ fs) (z ∷ zs) rest long fit =
     let here : length (stored (f .form) z) ≡ width (f .form) = length-stored (f .form) z in
     rw (append-assoc, take-at (stored (f .form) z) (bytesOf fs zs ++ rest) (width (f .form)) here, drop-at (stored (f .form) z) (bytesOf fs zs ++ rest) (width (f .form)) here)
     (ap₂ (λ (x : ℤ) (xs : List ℤ). x ∷ xs) (number-stored (f .form) z (field-holds f z (t .0))) (values-bytesOf fs zs rest (omega arith) (t .1)))
+
+-- the value at a field: the number that its bytes hold, which stand after those of the fields before it
+pub value-at : (fs : List Field) (bs : List ℕ) (i : ℕ) (f : Field) → i < length fs
+    → getD (values fs bs) i (pos 0) ≡ number (getD fs i f .form) (take (width (getD fs i f .form)) (drop (widths (take i fs)) bs))
+unfolding values widths
+value-at [] bs i f h = absurd (omega arith)
+value-at (g ∷ fs) bs zero f h = refl
+value-at (g ∷ fs) bs (suc i) f h = rw (← drop-drop (widths (take i fs)) (width (g .form)) bs) (value-at fs (drop (width (g .form)) bs) i f (omega arith))
+
+-- values that are in range are so one by one
+pub in-range-at : (fs : List Field) (zs : List ℤ) (i : ℕ) (f : Field) → length zs ≡ length fs → in-range fs zs ≡ true → i < length fs
+    → within (getD fs i f .range) (getD zs i (pos 0)) ≡ true
+unfolding in-range
+in-range-at [] zs i f long fit h = absurd (omega arith)
+in-range-at (g ∷ fs) [] i f long fit h = absurd (omega arith)
+in-range-at (g ∷ fs) (z ∷ zs) zero f long fit h = both-true (within (g .range) z) (in-range fs zs) fit .0
+in-range-at (g ∷ fs) (z ∷ zs) (suc i) f long fit h = in-range-at fs zs i f (omega arith) (both-true (within (g .range) z) (in-range fs zs) fit .1) (omega arith)

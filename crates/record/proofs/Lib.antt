@@ -2,4 +2,8 @@ pub mod Edges
 pub mod FieldLaws
 pub mod Lengths
 pub mod Literals
+pub mod Minus
 pub mod ReadThenWrite
+pub mod Refusals
+pub mod WriteAccepts
+pub mod WriteThenRead

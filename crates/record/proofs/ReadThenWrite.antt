@@ -1,13 +1,13 @@
 -- `read-then-write`: writing the kind and values that a reading gave, with the n and m that it answered (a loop) or that were its
 -- arguments (a certificate), gives the same bytes.
-use mathlib.Core.Path.{_≡_, refl, sym, ap, ap₂, _∙_}
-use Prim.Native.Nat.{ℕ, zero, suc, _+_, _*_, _-_, _≤_, _<_}
-use mathlib.Core.Bool.{Bool, true, false, cond, not, _&&_, _||_, false≢true}
-use mathlib.Core.List.{List, [], _∷_, _++_, append-assoc}
+use mathlib.Core.Path.{_≡_, refl, sym, ap, _∙_}
+use Prim.Native.Nat.{ℕ, _+_, _≤_}
+use mathlib.Core.Bool.{true, false, cond, not, _&&_, _||_, false≢true}
+use mathlib.Core.List.{List, _∷_, _++_}
 use native.Mathlib.Omega.{arith}
-use lib.Dec.{leb, eqb}
-use lib.IntN.{ℤ, pos, natAbs}
-use lib.ListN.{length, take, drop, getD, length-drop, take-append-drop}
+use lib.Dec.{leb}
+use lib.IntN.{ℤ, pos}
+use lib.ListN.{length, take, drop, length-drop, take-append-drop}
 use lib.Seq.{length-take-le, drop-drop, take-append-seam}
 use borrow.Author.Tests.{leb-true, eqb-true, le-leb, eq-eqb}
 use Rattle.endian.specs.Numbers.{Bytes, little, littleAt, digits}
@@ -15,7 +15,7 @@ use Rattle.endian.proofs.Laws.{bytes-take, bytes-drop, digits-little}
 use Rattle.refusal.specs.Tests.{Told, done, refused, first, number}
 use Rattle.refusal.proofs.TestLaws.{Passes, passes-done, done-passes, append-passes, zero-done, both-true, true-both}
 use Rattle.record.specs.Fields.{Field, width, widths, values, bytesOf, in-range, number as held}
-use Rattle.record.specs.Layouts.{variable-count, row-count, Kind, loop, ranking, exclusion, lasso, other, kindOf, is-loop, is-lasso, is-certificate, Counts, counts, layout, lengthOf, ahead, listed}
+use Rattle.record.specs.Layouts.{variable-count, row-count, Kind, loop, ranking, exclusion, lasso, other, kindOf, is-loop, is-lasso, is-certificate, counts, layout, lengthOf, ahead, listed}
 use Rattle.record.specs.Readers as R
 use Rattle.record.specs.Readers.{Reader, sound, enough-room, reading}
 use Rattle.record.specs.Writers as W

@@ -4,10 +4,9 @@ use Prim.Native.Nat.{ℕ, zero, suc, _+_, _*_}
 use mathlib.Core.Bool.{Bool, true, false, cond}
 use mathlib.Core.List.{List, [], _∷_, _++_}
 use lib.Dec.{eqb}
-use lib.IntN.{ℤ, pos, negℤ}
 use lib.ListN.{replicate}
-use Rattle.record.specs.Fields.{Form, u16, i16, i32, holds, Field}
-use Rattle.record.specs.Ranges.{Range, _to_, either-way, variables, rows, entries, right-sides, multipliers, scales, directions}
+use Rattle.record.specs.Fields.{u16, i16, i32, holds, Field}
+use Rattle.record.specs.Ranges.{_to_, either-way, variables, rows, entries, right-sides, multipliers, scales, directions}
 
 pub data Kind : Type 0 where
   loop : Kind

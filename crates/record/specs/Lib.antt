@@ -1,4 +1,5 @@
 pub mod Computing
+pub mod Contents
 pub mod Fields
 pub mod Layouts
 pub mod Ranges

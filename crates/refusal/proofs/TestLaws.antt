@@ -7,7 +7,7 @@ use mathlib.Core.List.{List, [], _∷_, _++_}
 use native.Mathlib.Omega.{arith}
 use lib.Dec.{ltb}
 use borrow.Author.Tests.{ltb-true}
-use Rattle.refusal.specs.Tests.{Told, done, refused, Test, _at_unless_, first, number}
+use Rattle.refusal.specs.Tests.{done, refused, Test, _at_unless_, first, number}
 
 -- a refusal is not done
 pub never : {k p : ℕ} → refused k p ≡ done → ⊥

@@ -1,3 +1,4 @@
-pub mod Sums
 pub mod Ready
+pub mod Rows
 pub mod Same
+pub mod Sums

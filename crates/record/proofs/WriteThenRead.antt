@@ -1,0 +1,354 @@
+-- `write-then-read`: reading the bytes that were written, with the same n and m, gives the same kind and values, and of a loop the
+-- same n and m.
+use mathlib.Core.Path.{_≡_, refl, sym, ap, _∙_}
+use Prim.Native.Nat.{ℕ, _+_, _^_, _≤_, _<_}
+use mathlib.Core.Bool.{Bool, true, false, cond, not, _&&_, _||_, false≢true}
+use mathlib.Core.List.{List, [], _++_, append-nil}
+use native.Mathlib.Decide.{decLe}
+use native.Mathlib.Omega.{arith}
+use lib.Dec.{leb, eqb}
+use lib.IntN.{ℤ, pos, negsuc, natAbs}
+use lib.Signed.{leZ}
+use lib.ListN.{length, take, drop, getD, length-append}
+use lib.Seq.{take-at, drop-at, drop-drop, take-append-seam}
+use borrow.Author.Tests.{leb-true, eqb-true, ne-eqb, le-leb, eq-eqb}
+use Rattle.endian.specs.Numbers.{little, littleAt, digits}
+use Rattle.endian.proofs.Laws.{length-digits, little-digits, littleAt-second}
+use Rattle.refusal.specs.Tests.{Told, done, refused, first, number}
+use Rattle.refusal.proofs.TestLaws.{Passes, passes-done, done-passes, passes-append, zero-done, both-true, true-both}
+use Rattle.record.specs.Fields.{width, widths, values, bytesOf, in-range, number as held}
+use Rattle.record.specs.Layouts.{variable-count, row-count, Kind, loop, ranking, exclusion, lasso, other, kindOf, is-loop, is-lasso, is-certificate, counts, lengthOf, ahead, listed}
+use Rattle.record.specs.Ranges.{_to_, variables, rows, within}
+use Rattle.record.specs.Readers as R
+use Rattle.record.specs.Readers.{Reader, sound, enough-room, reading}
+use Rattle.record.specs.Writers as W
+use Rattle.record.specs.Writers.{Writer, writing}
+use Rattle.record.proofs.FieldLaws.{widths-append, length-bytesOf, values-bytesOf}
+use Rattle.record.proofs.Lengths.{length-law, length-most}
+
+-- what a writer's tests say
+pub record Writable (w : Writer) : Type 0 where
+  pub known : (is-loop (W.kind w) || is-certificate (W.kind w)) ≡ true
+  pub n-fits : within variables (pos (w .n)) ≡ true
+  pub m-fits : within rows (pos (w .m)) ≡ true
+  pub ms-there : (not (is-lasso (W.kind w)) || leb 1 (length (w .list))) ≡ true
+  pub ms-fits : (not (is-lasso (W.kind w)) || within rows (W.ms-given w)) ≡ true
+  pub right-count : length (w .list) ≡ length (W.fields w)
+  pub values-fit : in-range (W.fields w) (w .list) ≡ true
+  pub fits-room : 4 + W.length-stated w ≤ w .room
+
+pub writing-says : (w : Writer) → Passes writing w → Writable w
+unfolding writing
+writing-says w h =
+    let counts-fit = both-true (within variables (pos (w .n))) (within rows (pos (w .m))) (h .1 .0) in
+    record {
+      known = h .0;
+      n-fits = counts-fit .0;
+      m-fits = counts-fit .1;
+      ms-there = h .1 .1 .0;
+      ms-fits = h .1 .1 .1 .0;
+      right-count = eqb-true _ _ (h .1 .1 .1 .1 .0);
+      values-fit = h .1 .1 .1 .1 .1 .0;
+      fits-room = leb-true _ _ (h .1 .1 .1 .1 .1 .1 .0);
+    }
+
+-- arguments that are tested only where a record is no loop
+tested : (is : Bool) (n m : ℕ) → within variables (pos n) ≡ true → within rows (pos m) ≡ true
+    → (is || (within variables (pos (cond is 0 n)) && within rows (pos (cond is 0 m)))) ≡ true
+tested true n m n-fits m-fits = refl
+tested false n m n-fits m-fits = true-both _ _ n-fits m-fits
+
+-- ---- sizes
+
+-- a known kind is a small number
+known-small : (k : ℕ) → (is-loop (kindOf k) || is-certificate (kindOf k)) ≡ true → k ≤ 4
+unfolding kindOf is-loop is-certificate
+known-small k known =
+    elim (decLe k 4) [
+      | yes h ↦ h
+      | no h ↦ absurd (false≢true (rw (ne-eqb k 1 (λ e. omega arith), ne-eqb k 2 (λ e. omega arith), ne-eqb k 3 (λ e. omega arith), ne-eqb k 4 (λ e. omega arith)) at known))
+    ]
+
+at-most : (least most z : ℕ) → within (least to most) (pos z) ≡ true → z ≤ most
+unfolding within _to_
+at-most least most z h = leb-true z most (both-true (leZ (pos least) (pos z)) (leZ (pos z) (pos most)) h .1)
+
+-- a count that is in the range of rows, as a natural number
+rows-most : (z : ℤ) → within rows z ≡ true → natAbs z ≤ 64
+unfolding within rows _to_
+rows-most (pos n) h = leb-true n 64 (both-true (leZ (pos 0) (pos n)) (leZ (pos n) (pos 64)) h .1)
+rows-most (negsuc n) h = absurd (false≢true h)
+
+-- a number that was put first is read there
+littleAt-digits : (width x : ℕ) (rest : List ℕ) → x < 256 ^ width → littleAt width (digits width x ++ rest) 0 ≡ x
+unfolding littleAt
+littleAt-digits width x rest small = rw (take-at (digits width x) rest width (length-digits width x)) (little-digits width x small)
+
+-- ---- the bytes of a record that passes every test
+
+-- the reader that gets them: a certificate's with the same n and m, a loop's with none
+abbrev over : Writer → (Kind → Bool) → ℕ → Reader
+over w wants room =
+    record {
+      bytes = W.record-bytes w;
+      wants = wants;
+      n = cond (is-loop (W.kind w)) 0 (w .n);
+      m = cond (is-loop (W.kind w)) 0 (w .m);
+      room = room;
+    }
+
+module _ (w : Writer) (s : Writable w) where
+  ms-most : W.counts-given w .ms ≤ 64
+  unfolding W.counts-given is-lasso W.kind
+  ms-most = by-kind (kindOf (w .kind-number)) refl (s .ms-fits)
+    where
+      by-kind : (k : Kind) → kindOf (w .kind-number) ≡ k → (not (is-lasso (W.kind w)) || within rows (W.ms-given w)) ≡ true → W.counts-given w .ms ≤ 64
+      by-kind loop e h = rw e (omega arith)
+      by-kind ranking e h = rw e (omega arith)
+      by-kind exclusion e h = rw e (omega arith)
+      by-kind lasso e h = rw e (rows-most (W.ms-given w) (rw e at h))
+      by-kind other e h = rw e (omega arith)
+
+  length-small : W.length-stated w < 256 ^ 4
+  unfolding W.length-stated W.counts-given variables rows
+  length-small =
+      let most = length-most (W.kind w) (W.counts-given w) (at-most 1 16 (w .n) (s .n-fits)) (at-most 0 64 (w .m) (s .m-fits)) ms-most in
+      omega (arith, most)
+
+  body : List ℕ
+  body = bytesOf (ahead (W.kind w)) (W.numbers-ahead w) ++ bytesOf (W.fields w) (w .list)
+
+  -- length and kind
+  length-read : littleAt 4 (W.record-bytes w) 0 ≡ W.length-stated w
+  unfolding W.record-bytes
+  length-read = littleAt-digits 4 (W.length-stated w) _ length-small
+
+  kind-read : littleAt 2 (W.record-bytes w) 4 ≡ w .kind-number
+  unfolding W.record-bytes W.kind
+  kind-read =
+      let small : w .kind-number < 256 ^ 2 = omega (arith, known-small (w .kind-number) (s .known)) in
+      littleAt-second 2 (digits 4 (W.length-stated w)) _ 4 0 (omega (arith, length-digits 4 (W.length-stated w)))
+      ∙ littleAt-digits 2 (w .kind-number) _ small
+
+  body-read : drop 6 (W.record-bytes w) ≡ body
+  unfolding W.record-bytes body
+  body-read =
+      sym (drop-drop 2 4 (W.record-bytes w))
+      ∙ ap (drop 2) (drop-at (digits 4 (W.length-stated w)) _ 4 (length-digits 4 (W.length-stated w)))
+      ∙ drop-at (digits 2 (w .kind-number)) _ 2 (length-digits 2 (w .kind-number))
+
+  -- the numbers before the list
+  ahead-there : (length (W.numbers-ahead w) ≡ length (ahead (W.kind w))) × (in-range (ahead (W.kind w)) (W.numbers-ahead w) ≡ true)
+  unfolding W.numbers-ahead ahead counts is-loop W.kind in-range variable-count row-count
+  ahead-there = by-kind (kindOf (w .kind-number)) refl
+    where
+      by-kind : (k : Kind) → kindOf (w .kind-number) ≡ k → (length (W.numbers-ahead w) ≡ length (ahead (W.kind w))) × (in-range (ahead (W.kind w)) (W.numbers-ahead w) ≡ true)
+      by-kind loop e = rw e (refl, true-both _ _ (s .n-fits) (true-both _ true (s .m-fits) refl))
+      by-kind ranking e = rw e (refl, refl)
+      by-kind exclusion e = rw e (refl, refl)
+      by-kind lasso e = rw e (refl, refl)
+      by-kind other e = rw e (refl, refl)
+
+  ahead-read : values (ahead (W.kind w)) body ≡ W.numbers-ahead w
+  unfolding body
+  ahead-read = values-bytesOf (ahead (W.kind w)) (W.numbers-ahead w) (bytesOf (W.fields w) (w .list)) (ahead-there .0) (ahead-there .1)
+
+  -- the list
+  list-read : values (W.fields w) (drop (widths (ahead (W.kind w))) body) ≡ w .list
+  unfolding body
+  list-read =
+      let front = bytesOf (ahead (W.kind w)) (W.numbers-ahead w) in
+      let long : length front ≡ widths (ahead (W.kind w)) = length-bytesOf (ahead (W.kind w)) (W.numbers-ahead w) (ahead-there .0) in
+      let rest = bytesOf (W.fields w) (w .list) in
+      rw (drop-at front rest (widths (ahead (W.kind w))) long, ← append-nil rest)
+      (values-bytesOf (W.fields w) (w .list) [] (s .right-count) (s .values-fit))
+
+  bytes-long : length (W.record-bytes w) ≡ 4 + W.length-stated w
+  unfolding W.record-bytes W.length-stated W.fields
+  bytes-long =
+      let law = length-law (W.kind w) (W.counts-given w) (s .known) in
+      simp (length-append, length-digits)
+      (omega (arith, law, length-bytesOf (ahead (W.kind w)) (W.numbers-ahead w) (ahead-there .0), length-bytesOf (W.fields w) (w .list) (s .right-count)))
+
+  -- ---- the counts
+
+  at-six : littleAt 2 (W.record-bytes w) 6 ≡ little (take 2 body)
+  unfolding littleAt
+  at-six = ap (λ b. little (take 2 b)) body-read
+
+  at-eight : littleAt 2 (W.record-bytes w) 8 ≡ little (take 2 (drop 2 body))
+  unfolding littleAt
+  at-eight = ap (λ b. little (take 2 b)) (sym (drop-drop 2 6 (W.record-bytes w)) ∙ ap (drop 2) body-read)
+
+  loop-counts : kindOf (w .kind-number) ≡ loop → (little (take 2 body) ≡ w .n) × (little (take 2 (drop 2 body)) ≡ w .m)
+  unfolding W.kind W.numbers-ahead ahead counts is-loop values variable-count row-count width held
+  loop-counts e =
+      let both = rw e at ahead-read in
+      (ap (λ l. natAbs (getD l 0 (pos 0))) both, ap (λ l. natAbs (getD l 1 (pos 0))) both)
+
+  lasso-count : kindOf (w .kind-number) ≡ lasso → pos (little (take 2 body)) ≡ W.ms-given w
+  unfolding W.kind W.fields W.ms-given ahead listed counts is-loop values widths row-count width held
+  lasso-count e = ap (λ l. getD l 0 (pos 0)) (rw e at list-read)
+
+  module _ (wants : Kind → Bool) (room : ℕ) where
+    counts-same : R.counts-read (over w wants room) ≡ W.counts-given w
+    unfolding R.counts-read R.kind R.kind-number W.counts-given W.kind is-loop is-lasso
+    counts-same = by-kind (kindOf (w .kind-number)) refl
+      where
+        by-kind : (k : Kind) → kindOf (w .kind-number) ≡ k → R.counts-read (over w wants room) ≡ W.counts-given w
+        by-kind loop e = rw (kind-read, e, at-six, at-eight, loop-counts e .0, loop-counts e .1)
+        by-kind ranking e = rw (kind-read, e)
+        by-kind exclusion e = rw (kind-read, e)
+        by-kind lasso e = rw (kind-read, e, at-six, ← lasso-count e)
+        by-kind other e = rw (kind-read, e)
+
+    kind-same : R.kind (over w wants room) ≡ W.kind w
+    unfolding R.kind R.kind-number W.kind
+    kind-same = ap kindOf kind-read
+
+    fields-same : R.fields (over w wants room) ≡ W.fields w
+    unfolding R.fields W.fields
+    fields-same = rw (kind-same, counts-same)
+
+    list-same : R.list (over w wants room) ≡ w .list
+    unfolding R.list R.list-start
+    list-same = rw (fields-same, kind-same, ← drop-drop (widths (ahead (W.kind w))) 6 (W.record-bytes w), body-read) list-read
+
+    -- the counts in the body are in range
+    counts-fit : in-range (counts (R.kind (over w wants room))) (R.count-list (over w wants room)) ≡ true
+    unfolding R.count-list counts in-range values variable-count row-count width held W.kind is-lasso
+    counts-fit = by-kind (kindOf (w .kind-number)) refl (s .ms-fits)
+      where
+        by-kind : (k : Kind) → kindOf (w .kind-number) ≡ k → (not (is-lasso (W.kind w)) || within rows (W.ms-given w)) ≡ true → in-range (counts (R.kind (over w wants room))) (R.count-list (over w wants room)) ≡ true
+        by-kind loop e h = rw (kind-same, e, body-read, loop-counts e .0, loop-counts e .1) (true-both _ _ (s .n-fits) (true-both _ true (s .m-fits) refl))
+        by-kind ranking e h = rw (kind-same, e)
+        by-kind exclusion e h = rw (kind-same, e)
+        by-kind lasso e h = rw (kind-same, e, body-read, lasso-count e) (true-both _ true (rw e at h) refl)
+        by-kind other e h = rw (kind-same, e)
+
+    length-same : R.stated-length (over w wants room) ≡ W.length-stated w
+    unfolding R.stated-length
+    length-same = length-read
+
+    counts-inside : 2 + widths (counts (W.kind w)) ≤ W.length-stated w
+    unfolding W.length-stated W.kind ahead listed is-loop widths
+    counts-inside = by-kind (kindOf (w .kind-number)) refl (length-law (W.kind w) (W.counts-given w) (s .known))
+      where
+        by-kind : (k : Kind) → kindOf (w .kind-number) ≡ k → lengthOf (W.kind w) (W.counts-given w) ≡ 2 + (widths (ahead (W.kind w)) + widths (listed (W.kind w) (W.counts-given w))) → 2 + widths (counts (W.kind w)) ≤ W.length-stated w
+        by-kind loop e h = rw e (omega (arith, rw e at h))
+        by-kind ranking e h = rw e (omega (arith, simp widths-append at (rw e at h)))
+        by-kind exclusion e h = rw e (omega (arith, simp widths-append at (rw e at h)))
+        by-kind lasso e h = rw e (omega (arith, simp widths-append at (rw e at h)))
+        by-kind other e h = rw e (omega (arith, simp widths-append at (rw e at h)))
+
+    passes-sound : wants (W.kind w) ≡ true → Passes sound (over w wants room)
+    unfolding sound R.arguments-fit W.length-stated
+    passes-sound wanted =
+        let r = over w wants room in
+        let four : 4 ≤ length (W.record-bytes w) = omega (arith, bytes-long) in
+        let head : 2 ≤ R.stated-length r = omega (arith, length-same, counts-inside) in
+        let all-there : 4 + R.stated-length r ≤ length (W.record-bytes w) = omega (arith, length-same, bytes-long) in
+        let no-more : length (W.record-bytes w) ≤ 4 + R.stated-length r = omega (arith, length-same, bytes-long) in
+        let counts-there : 2 + widths (counts (R.kind r)) ≤ R.stated-length r = rw (kind-same, length-same) counts-inside in
+        let formula : R.stated-length r ≡ lengthOf (R.kind r) (R.counts-read r) = rw (length-same, kind-same, counts-same) stated in (
+          le-leb _ _ four,
+          (
+            le-leb _ _ head,
+            (
+              le-leb _ _ all-there,
+              (
+                le-leb _ _ no-more,
+                (
+                  rw kind-same wanted,
+                  (
+                    rw kind-same (tested (is-loop (W.kind w)) (w .n) (w .m) (s .n-fits) (s .m-fits)),
+                    (
+                      le-leb _ _ counts-there,
+                      (
+                        counts-fit,
+                        (
+                          eq-eqb _ _ formula,
+                          (
+                            rw (fields-same, list-same) (s .values-fit),
+                            tt,
+                          ),
+                        ),
+                      ),
+                    ),
+                  ),
+                ),
+              ),
+            ),
+          ),
+        )
+      where
+        stated : W.length-stated w ≡ lengthOf (W.kind w) (W.counts-given w)
+        stated = refl
+
+-- ---- the calls
+
+-- a reading is done: what it answers, and the list afterwards, which begins with these values and is as it was past them
+pub record Reads-in (r : Reader) (lent : List ℤ) (kind n m : ℕ) (zs : List ℤ) : Type 0 where
+  pub answers : R.reads r ≡ record { number = 0; place = 0; kind = kind; n = n; m = m; count = length zs }
+  pub list-holds : R.fills r lent ≡ zs ++ drop (length zs) lent
+
+reads-over : (w : Writer) (wants : Kind → Bool) (lent : List ℤ) → Writable w → wants (W.kind w) ≡ true → length (w .list) ≤ length lent
+    → Reads-in (over w wants (length lent)) lent (w .kind-number) (cond (is-loop (W.kind w)) (w .n) 0) (cond (is-loop (W.kind w)) (w .m) 0) (w .list)
+unfolding R.reads R.fills R.answer R.filled reading enough-room R.kind-number W.counts-given
+reads-over w wants lent s wanted fits =
+    let r = over w wants (length lent) in
+    let same = list-same w s wants (length lent) in
+    let there : length (R.list r) ≤ length lent = rw same fits in
+    let told : first reading r ≡ done = passes-done reading r (passes-append sound enough-room r (passes-sound w s wants (length lent) wanted) (le-leb _ _ there, tt)) in
+    record {
+      answers = rw (told, kind-same w s wants (length lent), counts-same w s wants (length lent), same, kind-read w s);
+      list-holds = rw (told, same);
+    }
+
+-- what a writing that tells 0 left in the room
+pub record Has-written (w : Writer) (room : List ℕ) : Type 0 where
+  pub writable : Writable w
+  pub bytes-told : take (W.writes w .written) (W.room-after w room) ≡ W.record-bytes w
+
+pub has-written : (w : Writer) (room : List ℕ) → W.writes w .number ≡ 0 → Has-written w room
+unfolding W.writes W.room-after W.answer W.filled writing number
+has-written w room zero-told =
+    let told : first writing w ≡ done = zero-done writing w refl (number-told (first writing w) ∙ zero-told) in
+    let s = writing-says w (done-passes writing w told) in
+    record { writable = s; bytes-told = rw (told, ← bytes-long w s) (take-append-seam (W.record-bytes w) (drop (length (W.record-bytes w)) room)) }
+  where
+    number-told : (t : Told) → number t ≡ W.answer t w .number
+    number-told done = refl
+    number-told (refused k p) = refl
+
+-- only kind 1 is a loop
+pub other-kind : (k : ℕ) → (k ≡ 1 → ⊥) → is-loop (kindOf k) ≡ false
+unfolding kindOf is-loop
+other-kind k h = rw (ne-eqb k 1 h) (chosen (eqb k 2) (eqb k 3) (eqb k 4))
+  where
+    chosen : (a b c : Bool) → is-loop (cond a ranking (cond b exclusion (cond c lasso other))) ≡ false
+    chosen true b c = refl
+    chosen false true c = refl
+    chosen false false true = refl
+    chosen false false false = refl
+
+-- of a loop: kind, n, m and values come back
+pub write-then-read-loop : (n m : ℕ) (zs : List ℤ) (room : List ℕ) (lent : List ℤ) → length zs ≤ length lent
+    → W.writes (W.writer 1 n m zs room) .number ≡ 0
+    → Reads-in (R.loop-reader (take (W.writes (W.writer 1 n m zs room) .written) (W.room-after (W.writer 1 n m zs room) room)) lent) lent 1 n m zs
+unfolding W.writer R.loop-reader W.kind kindOf is-loop
+write-then-read-loop n m zs room lent fits zero-told =
+    let w = W.writer 1 n m zs room in
+    let h = has-written w room zero-told in
+    rw (h .bytes-told) (reads-over w is-loop lent (h .writable) refl fits)
+
+-- of a certificate, read with the same n and m: kind and values come back
+pub write-then-read-certificate : (kind n m : ℕ) (zs : List ℤ) (room : List ℕ) (lent : List ℤ) → (kind ≡ 1 → ⊥) → length zs ≤ length lent
+    → W.writes (W.writer kind n m zs room) .number ≡ 0
+    → Reads-in (R.certificate-reader (take (W.writes (W.writer kind n m zs room) .written) (W.room-after (W.writer kind n m zs room) room)) n m lent) lent kind 0 0 zs
+unfolding W.writer R.certificate-reader W.kind
+write-then-read-certificate kind n m zs room lent no-loop fits zero-told =
+    let w = W.writer kind n m zs room in
+    let h = has-written w room zero-told in
+    let not-loop : is-loop (kindOf kind) ≡ false = other-kind kind no-loop in
+    rw (h .bytes-told) (rw not-loop at (reads-over w is-certificate lent (h .writable) (rw not-loop at (h .writable .known)) fits))
