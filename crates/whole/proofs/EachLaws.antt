@@ -12,6 +12,11 @@ module _ {B : Type 0} (P : B → Type 0) where
   each-at (b ∷ bs) zero d e h = e .0
   each-at (b ∷ bs) (suc i) d e h = each-at bs i d (e .1) (omega arith)
 
+  pub each-by : (bs : List B) (d : B) → ((i : ℕ) → i < length bs → P (getD bs i d)) → Each P bs
+  unfolding Each
+  each-by [] d h = tt
+  each-by (b ∷ bs) d h = (h 0 (omega arith), each-by bs d (λ i k. h (suc i) (omega arith)))
+
   pub each-append : (xs ys : List B) → Each P xs → Each P ys → Each P (xs ++ ys)
   unfolding Each
   each-append [] ys e f = f
@@ -31,3 +36,8 @@ module _ {B : Type 0} (P : B → Type 0) where
   unfolding Each
   each-then Q [] f e = tt
   each-then Q (b ∷ bs) f e = (f b (e .0), each-then Q bs f (e .1))
+
+  pub each-both : (Q R : B → Type 0) (bs : List B) → ((b : B) → P b → Q b → R b) → Each P bs → Each Q bs → Each R bs
+  unfolding Each
+  each-both Q R [] f e g = tt
+  each-both Q R (b ∷ bs) f e g = (f b (e .0) (g .0), each-both Q R bs f (e .1) (g .1))

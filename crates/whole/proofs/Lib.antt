@@ -1,5 +1,6 @@
 pub mod Solve
 pub mod Ring
+pub mod Compare
 pub mod Size
 pub mod EachLaws
 pub mod SumLaws

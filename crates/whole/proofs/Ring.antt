@@ -1,18 +1,16 @@
 -- ℤ as an ordered commutative ring: the laws that `lib.IntN` and `lib.Signed` lack, each one line of `Solve`.
 -- `ring` is for `simp`: it multiplies out and sorts sums and products of any length, and cancels nothing.
-use Prim.Native.Nat.{_+_, _≤_}
-use mathlib.Core.Path.{_≡_, refl, ap}
+use Prim.Native.Nat.{ℕ, _+_, _≤_}
+use mathlib.Core.Path.{_≡_}
 use mathlib.Core.Logic.{_⊎_, inl, inr, ⊎-elim}
-use mathlib.Core.Bool.{not, true}
+use mathlib.Core.Bool.{not}
 use native.Mathlib.Nat.{mul-le-mul-left}
 use native.Mathlib.Decide.{decLe}
 use native.Mathlib.Omega.{arith}
 use mir.Facts.{T-not}
 use lib.Dec.{T}
 use lib.IntN.{ℤ, pos, negsuc, negℤ, _+ℤ_, _*ℤ_, +ℤ-assoc, +ℤ-comm, *ℤ-comm}
-use borrow.Author.Tests.{eqb-true, eq-eqb}
 use lib.Signed.{leZ, leZ-yes, _≤ℤ_, _<ℤ_}
-use Rattle.whole.specs.Same.{sameZ}
 use Rattle.whole.proofs.Solve.{up, down, v, _⊕_, _⊗_, neg, solve, solve-le, solve-lt, eq-fact, le-fact, lt-fact}
 
 -- ---- the ring
@@ -74,21 +72,10 @@ pub ≤ℤ-total : (a b : ℤ) → (a ≤ℤ b) ⊎ (b ≤ℤ a)
 pub leZ-no : {a b : ℤ} → T (not (leZ a b)) → b <ℤ a
 leZ-no {a} {b} t = ⊎-elim (λ h. absurd (T-not (leZ a b) (h .le) t)) (λ h. h) (≤ℤ-or-<ℤ a b)
 
--- the test of equality
-pub same-yes : (a b : ℤ) → sameZ a b ≡ true → a ≡ b
-same-yes (pos a) (pos b) h = ap pos (eqb-true a b h)
-same-yes (pos a) (negsuc b) h = cc
-same-yes (negsuc a) (pos b) h = cc
-same-yes (negsuc a) (negsuc b) h = ap negsuc (eqb-true a b h)
-
-pub yes-same : {a b : ℤ} → a ≡ b → sameZ a b ≡ true
-yes-same {a} h = rw (← h) (self a)
-  where
-    self : (a : ℤ) → sameZ a a ≡ true
-    self (pos a) = eq-eqb a a refl
-    self (negsuc a) = eq-eqb a a refl
-
 -- ---- the order with sums and products
+
+pub pos-nonneg : (n : ℕ) → pos 0 ≤ℤ pos n
+pos-nonneg n = solve-le (v (pos 0)) (v (pos n)) (omega arith)
 
 pub +ℤ-mono : {a b c d : ℤ} → a ≤ℤ b → c ≤ℤ d → (a +ℤ c) ≤ℤ (b +ℤ d)
 +ℤ-mono {a} {b} {c} {d} h k = solve-le (v a ⊕ v c) (v b ⊕ v d) (omega (arith, le-fact (v a) (v b) h, le-fact (v c) (v d) k))

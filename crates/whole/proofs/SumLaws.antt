@@ -12,7 +12,7 @@ use lib.Seq.{drop-cons}
 use lib.Signed.{_≤ℤ_, ≤ℤ-refl}
 use Rattle.whole.specs.Sums.{dot, sum, running, scale, add, less, Each, NonNeg, Within}
 use Rattle.whole.proofs.Solve.{v, _⊕_, _⊗_, neg, solve}
-use Rattle.whole.proofs.Ring.{+ℤ-mono, mul-mono}
+use Rattle.whole.proofs.Ring.{one-*ℤ, +ℤ-mono, mul-mono}
 use Rattle.whole.proofs.Size.{abs-add, abs-product}
 
 -- ---- the dot product is bilinear
@@ -52,6 +52,11 @@ unfolding less
 dot-less xs ys zs =
     dot-add xs (scale (negsuc 0) ys) zs ∙
     ap (λ t. dot xs zs +ℤ t) (dot-scale (negsuc 0) ys zs ∙ solve (v (negsuc 0) ⊗ v (dot ys zs)) (neg (v (dot ys zs))) (omega arith))
+
+pub scale-one : (xs : List ℤ) → scale (pos 1) xs ≡ xs
+unfolding scale
+scale-one [] = refl
+scale-one (x ∷ xs) = rw (one-*ℤ x, scale-one xs)
 
 pub length-scale : (k : ℤ) (xs : List ℤ) → length (scale k xs) ≡ length xs
 unfolding scale

@@ -1,0 +1,118 @@
+-- A lasso bounds the runs that follow its stem: start and kept give the invariant at every state, so each step also meets the added row, and the
+-- ranking argument runs over the longer loop.
+use Prim.Native.Nat.{ℕ, _≤_, _<_}
+use mathlib.Core.Path.{_≡_, sym, _∙_}
+use mathlib.Core.List.{List, [], _∷_}
+use native.Mathlib.Omega.{arith}
+use lib.IntN.{ℤ, pos, negsuc, negℤ, _+ℤ_, _-ℤ_, _*ℤ_, zero-*ℤ}
+use lib.ListN.{length, getD}
+use lib.Signed.{_≤ℤ_}
+use Rattle.whole.specs.Sums.{dot, sum, Each}
+use Rattle.whole.proofs.Solve.{v, _⊕_, _⊝_, _⊗_, neg, solve, solve-le, eq-fact, le-fact}
+use Rattle.whole.proofs.Ring.{neg-*ℤ, pos-nonneg, mul-mono, mul-cancel}
+use Rattle.whole.proofs.EachLaws.{each-append}
+use Rattle.whole.proofs.SumLaws.{dot-scale, dot-zeros}
+use Rattle.theory.specs.Loops.{A, A′, b, Loop, Meets, Step, Run, Endless}
+use Rattle.theory.specs.Rankings.{rank, start, fall, bound, Bounds}
+use Rattle.theory.specs.Lassos.{Lasso, NonNegativeLasso, LassoHolds, stemOf, added, longer, Invariant, AfterStem, LassoPromise}
+use Rattle.theory.proofs.Steps.{columns, weighted, columns-are}
+use Rattle.theory.proofs.RankingTheorems.{no-difference, no-endless, ranking-bounds-runs}
+
+-- a scaled number that is not below 0
+unscale : (k : ℕ) (z : ℤ) → 1 ≤ k → pos 0 ≤ℤ (pos k *ℤ z) → pos 0 ≤ℤ z
+unscale k z h n =
+    mul-cancel (pos k)
+    (solve-le (v (pos 1)) (v (pos k)) (omega arith))
+    (solve-le (v (pos k) ⊗ v (pos 0)) (v (pos k) ⊗ v z) (omega (arith, le-fact (v (pos 0)) (v (pos k) ⊗ v z) n)))
+
+module _ (loop : Loop) (c : Lasso) (nonneg : NonNegativeLasso c) (k-positive : 1 ≤ c .k) (k2-positive : 1 ≤ c .k2) (holds : LassoHolds loop c) where
+  -- start: k(s·x′ + s0) >= 0 after a stem step
+  starts : (x x′ : List ℤ) → Step (stemOf loop c) 1 x x′ → Invariant c x′
+  starts x x′ t =
+      unscale (c .k) _ k-positive
+      (scaled (pos (c .k)) (c .s0) (sum (c .T) b (c .stem)) _ _ (dot (c .s) x) (dot (c .s) x′)
+      (weighted (stemOf loop c) (c .T) 1 x x′ (nonneg .0) t)
+      (columns-are (stemOf loop c) (c .T) A (pos 0) (c .s) x (t .before) (λ j h. holds .start-now j h ∙ sym (zero-*ℤ (getD (c .s) j (pos 0)))))
+      (columns-are (stemOf loop c) (c .T) A′ (negℤ (pos (c .k))) (c .s) x′ (t .after) (λ j h. holds .start-next j h ∙ sym (neg-*ℤ (pos (c .k)) (getD (c .s) j (pos 0)))))
+      (holds .start-right))
+    where
+      scaled : (k s0 Td TB·x TB′·x′ s·x s·x′ : ℤ) → (TB·x +ℤ TB′·x′) ≤ℤ (pos 1 *ℤ Td) → TB·x ≡ pos 0 *ℤ s·x → TB′·x′ ≡ negℤ k *ℤ s·x′ → Td ≤ℤ (k *ℤ s0)
+          → pos 0 ≤ℤ (k *ℤ (s·x′ +ℤ s0))
+      scaled k s0 Td TB·x TB′·x′ s·x s·x′ h e f g =
+          solve-le (v (pos 0)) (v k ⊗ (v s·x′ ⊕ v s0))
+          (omega (
+            arith,
+            le-fact (v TB·x ⊕ v TB′·x′) (v (pos 1) ⊗ v Td) h,
+            eq-fact (v TB·x) (v (pos 0) ⊗ v s·x) e,
+            eq-fact (v TB′·x′) (neg (v k) ⊗ v s·x′) f,
+            le-fact (v Td) (v k ⊗ v s0) g,
+          ))
+
+  -- kept: k2(s·x′ + s0) >= h0(s·x + s0) >= 0 after a loop step
+  keeps : (x x′ : List ℤ) → Invariant c x → Step loop 1 x x′ → Invariant c x′
+  keeps x x′ i t =
+      unscale (c .k2) _ k2-positive
+      (scaled (pos (c .k2)) (pos (c .h0)) (c .s0) (sum (c .H) b (loop .rows)) _ _ (dot (c .s) x) (dot (c .s) x′)
+      (weighted loop (c .H) 1 x x′ (nonneg .1) t)
+      (columns-are loop (c .H) A (pos (c .h0)) (c .s) x (t .before) (λ j h. no-difference _ _ (holds .kept-now j h)))
+      (columns-are loop (c .H) A′ (negℤ (pos (c .k2))) (c .s) x′ (t .after) (λ j h. holds .kept-next j h ∙ sym (neg-*ℤ (pos (c .k2)) (getD (c .s) j (pos 0)))))
+      (holds .kept-right)
+      (mul-mono (pos (c .h0)) (pos-nonneg (c .h0)) i))
+    where
+      scaled : (k2 h0 s0 Hb HA·x HA′·x′ s·x s·x′ : ℤ) → (HA·x +ℤ HA′·x′) ≤ℤ (pos 1 *ℤ Hb) → HA·x ≡ h0 *ℤ s·x → HA′·x′ ≡ negℤ k2 *ℤ s·x′
+          → (Hb +ℤ h0 *ℤ s0) ≤ℤ (k2 *ℤ s0) → (h0 *ℤ pos 0) ≤ℤ (h0 *ℤ (s·x +ℤ s0)) → pos 0 ≤ℤ (k2 *ℤ (s·x′ +ℤ s0))
+      scaled k2 h0 s0 Hb HA·x HA′·x′ s·x s·x′ h e f g i =
+          solve-le (v (pos 0)) (v k2 ⊗ (v s·x′ ⊕ v s0))
+          (omega (
+            arith,
+            le-fact (v HA·x ⊕ v HA′·x′) (v (pos 1) ⊗ v Hb) h,
+            eq-fact (v HA·x) (v h0 ⊗ v s·x) e,
+            eq-fact (v HA′·x′) (neg (v k2) ⊗ v s·x′) f,
+            le-fact (v Hb ⊕ v h0 ⊗ v s0) (v k2 ⊗ v s0) g,
+            le-fact (v h0 ⊗ v (pos 0)) (v h0 ⊗ (v s·x ⊕ v s0)) i,
+          ))
+
+  -- a step from a state that meets the invariant also meets the added row
+  longer-step : (x x′ : List ℤ) → Invariant c x → Step loop 1 x x′ → Step (longer loop c) 1 x x′
+  unfolding Each
+  longer-step x x′ i t =
+      record {
+        before = t .before;
+        after = t .after;
+        meets = each-append (Meets 1 x x′) (loop .rows) (added loop c ∷ []) (t .meets) (last, tt);
+      }
+    where
+      meets-added : (s·x s0 : ℤ) → pos 0 ≤ℤ (s·x +ℤ s0) → (negsuc 0 *ℤ s·x +ℤ pos 0) ≤ℤ (pos 1 *ℤ s0)
+      meets-added s·x s0 h = solve-le (v (negsuc 0) ⊗ v s·x ⊕ v (pos 0)) (v (pos 1) ⊗ v s0) (omega (arith, le-fact (v (pos 0)) (v s·x ⊕ v s0) h))
+
+      last : Meets 1 x x′ (added loop c)
+      last = rw (dot-scale (negsuc 0) (c .s) x, dot-zeros (loop .variables) x′) (meets-added (dot (c .s) x) (c .s0) i)
+
+  keeps-all : (x : List ℤ) (ys : List (List ℤ)) → Invariant c x → Run loop x ys → Each (Invariant c) ys
+  unfolding Run Each
+  keeps-all x [] i t = tt
+  keeps-all x (y ∷ ys) i t = let j = keeps x y i (t .0) in (j, keeps-all y ys j (t .1))
+
+  longer-run : (x : List ℤ) (ys : List (List ℤ)) → Invariant c x → Run loop x ys → Run (longer loop c) x ys
+  unfolding Run
+  longer-run x [] i t = t
+  longer-run x (y ∷ ys) i t = (longer-step x y i (t .0), longer-run y ys (keeps x y i (t .0)) (t .1))
+
+  -- bounded from states that meet the invariant, however that is known
+  bounds-from : (From : List ℤ → Type 0) → ((x : List ℤ) → From x → Invariant c x)
+      → Bounds loop From (rank (longer loop c) (c .ranking)) (start (longer loop c) (c .ranking)) (fall (longer loop c) (c .ranking))
+  bounds-from From f =
+      record { steps = within; ends = λ state h e. no-endless loop state _ (λ ys t. within (state 0) ys h t) e }
+    where
+      within : (x : List ℤ) (ys : List (List ℤ)) → From x → Run loop x ys
+          → length ys ≤ bound (rank (longer loop c) (c .ranking)) (start (longer loop c) (c .ranking)) (fall (longer loop c) (c .ranking)) x
+      within x ys h t = ranking-bounds-runs (longer loop c) (c .ranking) (nonneg .2) (holds .ranked) .steps x ys tt (longer-run x ys (f x h) t)
+
+  pub lasso-bounds-runs : LassoPromise loop c (rank (longer loop c) (c .ranking)) (start (longer loop c) (c .ranking)) (fall (longer loop c) (c .ranking))
+  lasso-bounds-runs =
+      record {
+        started = λ x t. starts (t .0) x (t .1);
+        kept = keeps-all;
+        from-invariant = bounds-from (Invariant c) (λ x i. i);
+        after-stem = bounds-from (AfterStem loop c) (λ x t. starts (t .0) x (t .1));
+      }

@@ -1,0 +1,6 @@
+pub mod Steps
+pub mod RankingTheorems
+pub mod ExclusionTheorems
+pub mod LassoTheorems
+pub mod WeightTheorems
+pub mod Decisions

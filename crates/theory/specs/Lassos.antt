@@ -1,0 +1,63 @@
+-- Lassos: 01, "Conditions", after document 001's Bradley-Manna-Sipma constraints with the invariant as a premise.
+use Prim.Native.Nat.{ℕ, _<_}
+use mathlib.Core.Path.{_≡_}
+use mathlib.Core.List.{List}
+use lib.IntN.{ℤ, pos, negsuc, negℤ, _+ℤ_, _-ℤ_, _*ℤ_}
+use lib.ListN.{getD, replicate}
+use lib.Signed.{_≤ℤ_}
+use Rattle.whole.specs.Sums.{dot, sum, scale, Each, NonNeg}
+use Rattle.theory.specs.Loops.{Row, A, A′, b, Loop, over, withRow, Step, Run}
+use Rattle.theory.specs.Rankings.{Ranking, NonNegative, RankingHolds, Bounds}
+
+-- stem rows (B, B′, d); the invariant s·x + s0 >= 0; T, one per stem row, and its scale k; H, one per loop row, h0 and their scale k2; the ranking
+pub record Lasso : Type 0 where
+  pub stem : List Row
+  pub s : List ℤ
+  pub s0 : ℤ
+  pub k : ℕ
+  pub T : List ℤ
+  pub k2 : ℕ
+  pub H : List ℤ
+  pub h0 : ℕ
+  pub ranking : Ranking
+
+abbrev pub NonNegativeLasso : Lasso → Type 0
+NonNegativeLasso c = Each NonNeg (c .T) × Each NonNeg (c .H) × NonNegative (c .ranking)
+
+-- the stem as a loop of its own
+abbrev pub stemOf : Loop → Lasso → Loop
+stemOf loop c = over (loop .variables) (c .stem)
+
+-- the added row: -s·x <= s0
+abbrev pub added : Loop → Lasso → Row
+added loop c = record { now = scale (negsuc 0) (c .s); next = replicate (loop .variables) (pos 0); right = c .s0 }
+
+-- the loop that the ranking is for
+abbrev pub longer : Loop → Lasso → Loop
+longer loop c = withRow loop (added loop c)
+
+-- Start: TB = 0, TB′ = -k s, Td <= k s0. Kept: HA - h0 s = 0, HA′ = -k2 s, Hb + h0 s0 <= k2 s0. Ranking: the four conditions with the added row
+pub record LassoHolds (loop : Loop) (c : Lasso) : Type 0 where
+  pub start-now : (j : ℕ) → j < loop .variables → sum (c .T) (A j) (c .stem) ≡ pos 0
+  pub start-next : (j : ℕ) → j < loop .variables → sum (c .T) (A′ j) (c .stem) ≡ negℤ (pos (c .k) *ℤ getD (c .s) j (pos 0))
+  pub start-right : sum (c .T) b (c .stem) ≤ℤ (pos (c .k) *ℤ c .s0)
+  pub kept-now : (j : ℕ) → j < loop .variables → sum (c .H) (A j) (loop .rows) -ℤ pos (c .h0) *ℤ getD (c .s) j (pos 0) ≡ pos 0
+  pub kept-next : (j : ℕ) → j < loop .variables → sum (c .H) (A′ j) (loop .rows) ≡ negℤ (pos (c .k2) *ℤ getD (c .s) j (pos 0))
+  pub kept-right : (sum (c .H) b (loop .rows) +ℤ pos (c .h0) *ℤ c .s0) ≤ℤ (pos (c .k2) *ℤ c .s0)
+  pub ranked : RankingHolds (longer loop c) (c .ranking)
+
+-- the invariant at x
+abbrev pub Invariant : Lasso → List ℤ → Type 0
+Invariant c x = pos 0 ≤ℤ (dot (c .s) x +ℤ c .s0)
+
+-- x′ is the state after some stem step
+abbrev pub AfterStem : Loop → Lasso → List ℤ → Type 0
+AfterStem loop c x′ = (x : List ℤ) × Step (stemOf loop c) 1 x x′
+
+-- what a lasso promises: every stem step starts the invariant, every run keeps it, and the runs from states that meet it are bounded, with the rank,
+-- start and fall of the longer loop. So the runs that follow a stem step are, which is the promise of 01
+pub record LassoPromise (loop : Loop) (c : Lasso) (r : List ℤ) (δ0 δ : ℤ) : Type 0 where
+  pub started : (x : List ℤ) → AfterStem loop c x → Invariant c x
+  pub kept : (x : List ℤ) (ys : List (List ℤ)) → Invariant c x → Run loop x ys → Each (Invariant c) ys
+  pub from-invariant : Bounds loop (Invariant c) r δ0 δ
+  pub after-stem : Bounds loop (AfterStem loop c) r δ0 δ

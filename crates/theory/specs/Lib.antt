@@ -1,0 +1,6 @@
+pub mod Loops
+pub mod Rankings
+pub mod Exclusions
+pub mod Lassos
+pub mod Weights
+pub mod Conditions

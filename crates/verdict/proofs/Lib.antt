@@ -1,0 +1,2 @@
+pub mod SampleSheet
+pub mod StageLaws

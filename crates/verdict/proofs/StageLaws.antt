@@ -1,0 +1,61 @@
+-- Laws of orders of stages: all is agreed exactly when every stage is done.
+use mathlib.Core.Path.{_≡_, refl, sym, _∙_}
+use Prim.Native.Nat.{ℕ, suc}
+use mathlib.Core.Bool.{Bool, true, false}
+use mathlib.Core.List.{List, [], _∷_}
+use native.Mathlib.Omega.{arith}
+use lib.IntN.{ℤ}
+use Rattle.record.specs.Ranges.{state-entries, within}
+use Rattle.refusal.specs.Tests.{Told, done, refused}
+use Rattle.verdict.specs.Bounding.{before-outside}
+use Rattle.verdict.specs.Stages.{Said, agreed, refusal, Stage, _says_, said}
+
+module _ {I : Type 0} where
+  -- every stage is done
+  abbrev pub Agrees : List (Stage I) → I → Type 0
+  Agrees [] i = Unit {0}
+  Agrees ((about says told) ∷ stages) i = (told i ≡ done) × Agrees stages i
+
+  -- one step
+  pub stage-done : (about : ℕ) (told : I → Told) (stages : List (Stage I)) (i : I) → told i ≡ done → said ((about says told) ∷ stages) i ≡ said stages i
+  unfolding said
+  stage-done about told stages i h = step (told i) h
+    where
+      step : (t : Told) → t ≡ done → elim t [ done ↦ said stages i | refused number place ↦ refusal about number place ] ≡ said stages i
+      step done e = refl
+      step (refused k p) e = cc
+
+  pub stage-refused : (about : ℕ) (told : I → Told) (stages : List (Stage I)) (i : I) (k p : ℕ) → told i ≡ refused k p → said ((about says told) ∷ stages) i ≡ refusal about k p
+  unfolding said
+  stage-refused about told stages i k p h = step (told i) h
+    where
+      step : (t : Told) → t ≡ refused k p → elim t [ done ↦ said stages i | refused number place ↦ refusal about number place ] ≡ refusal about k p
+      step done e = cc
+      step (refused k′ p′) e = cc
+
+  pub agrees-said : (stages : List (Stage I)) (i : I) → Agrees stages i → said stages i ≡ agreed
+  unfolding said
+  agrees-said [] i h = refl
+  agrees-said ((about says told) ∷ stages) i h = stage-done about told stages i (h .0) ∙ agrees-said stages i (h .1)
+
+  pub said-agrees : (stages : List (Stage I)) (i : I) → said stages i ≡ agreed → Agrees stages i
+  said-agrees [] i h = tt
+  said-agrees ((about says told) ∷ stages) i h =
+      by-told (told i) (λ e. (e, said-agrees stages i (sym (stage-done about told stages i e) ∙ h)))
+      (λ k p e. absurd (no-refusal (sym (stage-refused about told stages i k p e) ∙ h)))
+    where
+      by-told : {X : Type 0} (t : Told) → (t ≡ done → X) → ((k p : ℕ) → t ≡ refused k p → X) → X
+      by-told done f g = f refl
+      by-told (refused k p) f g = g k p refl
+
+      no-refusal : {a k p : ℕ} → refusal a k p ≡ agreed → ⊥
+      no-refusal e = let z : _≡_ {A = ℕ} 0 1 = cc in omega arith
+
+-- an entry in range is passed over
+pub before-inside : (x : ℤ) (xs : List ℤ) → within state-entries x ≡ true → before-outside (x ∷ xs) ≡ suc (before-outside xs)
+unfolding before-outside
+before-inside x xs h = step (within state-entries x) h
+  where
+    step : (b : Bool) → b ≡ true → elim b [ true ↦ suc (before-outside xs) | false ↦ 0 ] ≡ suc (before-outside xs)
+    step true e = refl
+    step false e = cc

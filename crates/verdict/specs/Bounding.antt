@@ -1,0 +1,66 @@
+-- 01, "Numbers of the verdict": what the bound call answers, on every pair of byte strings and every state.
+-- "Bound: loop, certificate (kind 3 gives 4), 10, 9, 8, 11" is the list `bounding`.
+use Prim.Native.Nat.{ℕ, suc}
+use mathlib.Core.Bool.{true, false, not, _||_}
+use mathlib.Core.List.{List, [], _∷_}
+use lib.Dec.{eqb}
+use lib.IntN.{ℤ, pos, _+ℤ_}
+use lib.ListN.{length}
+use lib.Signed.{leZ}
+use Rattle.record.specs.Layouts.{is-lasso}
+use Rattle.record.specs.Ranges.{state-entries, within}
+use Rattle.record.specs.Readers.{sound}
+use Rattle.refusal.specs.Tests.{Test, _at_unless_, first}
+use Rattle.theory.specs.Rankings as Rankings
+use Rattle.whole.specs.Sums.{dot}
+use Rattle.verdict.specs.Contents.{lasso-in}
+use Rattle.verdict.specs.Pairs.{loop-record, certificate-record, Pair, kind-of, variables-of, conditions, rank-of, start-of, fall-of, outcome-of, has-rank}
+use Rattle.verdict.specs.Stages.{Said, agreed, refusal, Stage, _says_, said, verdict-of}
+use Rattle.verdict.specs.declared.Bounded.{Bounded}
+use Rattle.verdict.specs.declared.Outcome.{Outcome}
+
+-- what comes to a bound call: the records and a state
+pub record Bounding : Type 0 where
+  pub records : Pair
+  pub state : List ℤ
+
+-- how many entries stand before the first that is out of range
+unfoldable pub before-outside : List ℤ → ℕ
+before-outside [] = 0
+before-outside (x ∷ xs) = elim (within state-entries x) [ true ↦ suc (before-outside xs) | false ↦ 0 ]
+
+unfoldable pub state-tests : List (Test Bounding)
+state-tests =
+    (10 at (λ b. length (b .state)) unless λ b. eqb (length (b .state)) (variables-of (b .records)))
+    ∷ (9 at (λ b. before-outside (b .state)) unless λ b. eqb (before-outside (b .state)) (length (b .state)))
+    ∷ []
+
+-- the invariant of a lasso: s·x + s0 >= 0
+unfoldable pub invariant : List (Test Bounding)
+invariant =
+    (11 at (λ b. 0)
+    unless λ b. not (is-lasso (kind-of (b .records))) || leZ (pos 0) (dot (lasso-in (b .records .certificate-is) .s) (b .state) +ℤ lasso-in (b .records .certificate-is) .s0))
+    ∷ []
+
+unfoldable pub bounding : List (Stage Bounding)
+bounding =
+    (1 says λ b. first sound (b .records .loop-is))
+    ∷ (2 says λ b. first sound (b .records .certificate-is))
+    ∷ (0 says λ b. first state-tests b)
+    ∷ (2 says λ b. conditions (b .records))
+    ∷ (2 says λ b. first invariant b)
+    ∷ []
+
+unfoldable pub bounded : Said → Outcome → ℕ → Bounded
+bounded agreed outcome bound = record { verdict = verdict-of agreed outcome; bound = bound }
+bounded (refusal about number place) outcome bound = record { verdict = verdict-of (refusal about number place) outcome; bound = 0 }
+
+-- an accepted bound call has judging's outcome beside the bound
+unfoldable pub bounds : Bounding → Bounded
+bounds b =
+    bounded (said bounding b) (outcome-of (kind-of (b .records)) (b .records))
+    (Rankings.bound (rank-of (b .records)) (start-of (b .records)) (fall-of (b .records)) (b .state))
+
+-- bound on bytes
+unfoldable pub bound-of : List ℕ → List ℕ → List ℤ → Bounding
+bound-of l c state = record { records = record { loop-is = loop-record l; certificate-is = certificate-record has-rank (loop-record l) c }; state = state }

@@ -1,0 +1,47 @@
+-- 01, "Numbers of the verdict": what judging answers, and what the rank list holds afterwards, on every pair of byte strings and every list.
+-- "Judging: the loop record, then the certificate, then 7 (kinds 2 and 4 only), then 8" is the list `judging`.
+use Prim.Native.Nat.{ℕ}
+use mathlib.Core.Bool.{Bool, true, false, not, _||_}
+use mathlib.Core.List.{List, [], _∷_, _++_}
+use lib.Dec.{leb}
+use lib.IntN.{ℤ}
+use lib.ListN.{length, drop}
+use Rattle.record.specs.Layouts.{is-certificate}
+use Rattle.record.specs.Readers.{sound}
+use Rattle.refusal.specs.Tests.{Test, _at_unless_, first}
+use Rattle.theory.specs.Conditions.{ranked}
+use Rattle.verdict.specs.Pairs.{loop-record, certificate-record, Pair, kind-of, variables-of, conditions, rank-of, outcome-of, has-rank}
+use Rattle.verdict.specs.Stages.{Said, agreed, refusal, Stage, _says_, said, verdict-of}
+use Rattle.verdict.specs.declared.Verdict.{Verdict}
+
+-- what comes to a judge: the records, and how many places the rank list has
+pub record Judging : Type 0 where
+  pub records : Pair
+  pub room : ℕ
+
+unfoldable pub rank-room : List (Test Judging)
+rank-room = (7 at (λ j. variables-of (j .records)) unless λ j. not (has-rank (kind-of (j .records))) || leb (variables-of (j .records)) (j .room)) ∷ []
+
+unfoldable pub judging : List (Stage Judging)
+judging =
+    (1 says λ j. first sound (j .records .loop-is))
+    ∷ (2 says λ j. first sound (j .records .certificate-is))
+    ∷ (0 says λ j. first rank-room j)
+    ∷ (2 says λ j. conditions (j .records))
+    ∷ []
+
+unfoldable pub judges : Judging → Verdict
+judges j = verdict-of (said judging j) (outcome-of (kind-of (j .records)) (j .records))
+
+-- on acceptance of kinds 2 and 4 the first n of the lent rank list are r and the rest stay; else nothing changes
+unfoldable pub ranks : Said → Bool → List ℤ → List ℤ → List ℤ
+ranks agreed true r lent = r ++ drop (length r) lent
+ranks agreed false r lent = lent
+ranks (refusal about number place) ranked r lent = lent
+
+unfoldable pub rank-after : Judging → List ℤ → List ℤ
+rank-after j lent = ranks (said judging j) (has-rank (kind-of (j .records))) (rank-of (j .records)) lent
+
+-- the judge on bytes
+unfoldable pub judge-of : List ℕ → List ℕ → List ℤ → Judging
+judge-of l c lent = record { records = record { loop-is = loop-record l; certificate-is = certificate-record is-certificate (loop-record l) c }; room = length lent }

@@ -1,0 +1,26 @@
+-- Orders of several stages. A stage is an order of tests of its own, with the record that it speaks of: 1 loop, 2 certificate, 0 neither.
+use Prim.Native.Nat.{ℕ}
+use mathlib.Core.List.{List, [], _∷_}
+use Rattle.refusal.specs.Tests.{Told, done, refused}
+use Rattle.verdict.specs.declared.Outcome.{Outcome}
+use Rattle.verdict.specs.declared.Outcome.the-variants.{Nothing}
+use Rattle.verdict.specs.declared.Verdict.{Verdict}
+
+-- what an order says: all is agreed, or a refusal: the record it speaks of, number and place
+pub data Said : Type 0 where
+  agreed : Said
+  refusal : ℕ → ℕ → ℕ → Said
+
+infix 3 _says_
+pub data Stage (I : Type 0) : Type 0 where
+  _says_ : ℕ → (I → Told) → Stage I
+
+-- the first stage that refuses is told
+unfoldable pub said : {I : Type 0} → List (Stage I) → I → Said
+said [] i = agreed
+said ((about says told) ∷ stages) i = elim (told i) [ done ↦ said stages i | refused number place ↦ refusal about number place ]
+
+-- a refusal's outcome is nothing
+unfoldable pub verdict-of : Said → Outcome → Verdict
+verdict-of agreed outcome = record { number = 0; place = 0; about = 0; outcome = outcome }
+verdict-of (refusal about number place) outcome = record { number = number; place = place; about = about; outcome = Nothing }
