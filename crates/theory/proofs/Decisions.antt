@@ -1,17 +1,15 @@
 -- The tests and the conditions say the same: each order of tests is done exactly when the published conditions hold.
 -- `Decides tests i P` says that all tests hold of i exactly when P does; the lemmas put it together as the lists are.
 use Prim.Native.Nat.{ℕ, zero, suc, _<_}
-use mathlib.Core.Path.{_≡_, refl, sym, _∙_}
+use mathlib.Core.Path.{_≡_, sym, _∙_}
 use mathlib.Core.Logic.{_↔_}
 use mathlib.Core.Bool.{Bool, true}
 use mathlib.Core.List.{List, [], _∷_, _++_}
 use native.Mathlib.Omega.{arith}
 use lib.IntN.{ℤ, pos, negℤ, _+ℤ_, _-ℤ_, _*ℤ_, +ℤ-invr}
 use lib.ListN.{length, getD}
-use lib.Signed.{leZ, ltZ, _≤ℤ_, _<ℤ_}
 use Rattle.refusal.specs.Tests.{Test, _at_unless_, first, done}
 use Rattle.refusal.proofs.TestLaws.{Passes, passes-done, done-passes, passes-append, append-passes}
-use Rattle.whole.specs.Same.{sameZ}
 use Rattle.whole.specs.Sums.{sum, tabulate, less, Each}
 use Rattle.whole.proofs.EachLaws.{each-at, each-by}
 use Rattle.whole.proofs.Compare.{true-same, same-true, true-le, le-true, true-lt, lt-true}
@@ -20,9 +18,10 @@ use Rattle.theory.specs.Loops.{Row, A, A′, b, Loop, Meets}
 use Rattle.theory.specs.Rankings.{Ranking, RankingHolds}
 use Rattle.theory.specs.Exclusions.{Exclusion, Stays, ExclusionHolds}
 use Rattle.theory.specs.Lassos.{Lasso, LassoHolds, longer}
-use Rattle.theory.specs.Conditions.{Proposal, _at-each_unless_, rankingTests, rowAt, exclusionTests, lassoTests, of, ranked}
+use Rattle.theory.specs.Conditions.{_at-each_unless_, rankingTests, rowAt, exclusionTests, lassoTests, of, ranked, rankingTold, exclusionTold, lassoTold}
 use Rattle.theory.proofs.RankingTheorems.{no-difference}
 
+-- all tests hold of i exactly when P does
 record Decides {I : Type 0} (tests : List (Test I)) (i : I) (P : Type 0) : Type 0 where
   passes : P → Passes tests i
   holds : Passes tests i → P
@@ -53,6 +52,7 @@ module _ {I : Type 0} where
   of-passes f ((number at place unless test) ∷ ts) i h = (h .0, of-passes f ts i (h .1))
 
 module _ {I : Type 0} {i : I} where
+  -- an order in two parts
   both : {ts us : List (Test I)} {P Q : Type 0} → Decides ts i P → Decides us i Q → Decides (ts ++ us) i (P × Q)
   both {ts} {us} d e =
       record {
@@ -82,9 +82,11 @@ module _ {I : Type 0} {i : I} where
   seen : {J : Type 0} (f : I → J) {ts : List (Test J)} {P : Type 0} → Decides ts (f i) P → Decides (of f ts) i P
   seen f {ts} d = record { passes = λ h. passes-of f ts i (d .passes h); holds = λ h. d .holds (of-passes f ts i h) }
 
+  -- the same, said in another way
   changed : {ts : List (Test I)} {P Q : Type 0} → Decides ts i P → (P → Q) → (Q → P) → Decides ts i Q
   changed d f g = record { passes = λ h. d .passes (g h); holds = λ h. f (d .holds h) }
 
+  -- no test is told exactly when P holds
   decided : {ts : List (Test I)} {P : Type 0} → Decides ts i P → (first ts i ≡ done) ↔ P
   decided {ts} d = (λ h. d .holds (done-passes ts i h), λ h. passes-done ts i (d .passes h))
 
@@ -118,7 +120,8 @@ module _ (loop : Loop) (c : Ranking) where
       plus-is : (j : ℕ) → sum (c .Z) (λ row. A j row +ℤ A′ j row) (loop .rows) ≡ sum (c .Z) (A j) (loop .rows) +ℤ sum (c .Z) (A′ j) (loop .rows)
       plus-is j = sum-add (c .Z) (A j) (A′ j) (loop .rows)
 
-  pub ranking-decided : (first (rankingTests (loop .variables)) (record { loop = loop; values = c }) ≡ done) ↔ RankingHolds loop c
+  pub ranking-decided : (rankingTold loop c ≡ done) ↔ RankingHolds loop c
+  unfolding rankingTold
   ranking-decided = decided ranking-decides
 
 -- ---- exclusion
@@ -137,7 +140,8 @@ module _ (loop : Loop) (c : Exclusion) where
       (λ h. record { direction = every-row loop c (Stays (c .«V») (c .U)) .0 (h .0); step = every-row loop c (Meets (c .q) (less (c .W) (c .«V»)) (c .W)) .0 (h .1) })
       (λ h. (every-row loop c (Stays (c .«V») (c .U)) .1 (h .direction), every-row loop c (Meets (c .q) (less (c .W) (c .«V»)) (c .W)) .1 (h .step)))
 
-  pub exclusion-decided : (first (exclusionTests (length (loop .rows))) (record { loop = loop; values = c }) ≡ done) ↔ ExclusionHolds loop c
+  pub exclusion-decided : (exclusionTold loop c ≡ done) ↔ ExclusionHolds loop c
+  unfolding exclusionTold
   exclusion-decided = decided exclusion-decides
 
 -- ---- lasso
@@ -166,5 +170,6 @@ module _ (loop : Loop) (c : Lasso) where
       })
       (λ h. (h .start-now, (h .start-next, (h .start-right, (h .kept-now, (h .kept-next, (h .kept-right, h .ranked)))))))
 
-  pub lasso-decided : (first (lassoTests (loop .variables)) (record { loop = loop; values = c }) ≡ done) ↔ LassoHolds loop c
+  pub lasso-decided : (lassoTold loop c ≡ done) ↔ LassoHolds loop c
+  unfolding lassoTold
   lasso-decided = decided lasso-decides

@@ -1,16 +1,16 @@
 -- An exclusion rules linear ranking functions out, and no loop has both a ranking and an exclusion.
 -- The one argument is `line-excludes`: a step, and a direction that no row leaves and that goes on the way of the step, make a line of steps
 -- along which r·x falls below any start. `exclusion-excludes` and `whole-step-excludes` give the direction each in its own way.
-use Prim.Native.Nat.{ℕ, zero, suc, _≤_, _<_}
-use mathlib.Core.Path.{_≡_, refl, sym, ap, _∙_}
+use Prim.Native.Nat.{ℕ, suc, _≤_, zero-le}
+use mathlib.Core.Path.{_≡_, sym, _∙_}
 use mathlib.Core.List.{List}
 use native.Mathlib.Omega.{arith}
-use lib.IntN.{ℤ, pos, negsuc, natAbs, negℤ, _+ℤ_, _-ℤ_, _*ℤ_}
+use lib.IntN.{ℤ, pos, negsuc, natAbs, _+ℤ_, _-ℤ_, _*ℤ_}
 use lib.ListN.{length}
 use lib.Signed.{_≤ℤ_}
 use Rattle.whole.specs.Sums.{dot, add, scale, less, Each}
 use Rattle.whole.proofs.Solve.{v, _⊕_, _⊝_, _⊗_, solve, solve-le, eq-fact, le-fact, abs-fact}
-use Rattle.whole.proofs.Ring.{pos-nonneg, mul-mono}
+use Rattle.whole.proofs.Ring.{pos-mono, mul-mono}
 use Rattle.whole.proofs.EachLaws.{each-both}
 use Rattle.whole.proofs.SumLaws.{dot-comm, dot-add, dot-scale, dot-less, length-add, length-scale, length-less}
 use Rattle.theory.specs.Loops.{Row, Loop, Meets, Step}
@@ -32,21 +32,21 @@ no-line : (p c : ℕ) (S δ x x′ d : ℤ) → 1 ≤ p → 1 ≤ c → pos 1 �
 no-line p c S δ x x′ d hp hc hδ hx hd hS =
     let falls : pos 1 ≤ℤ (x -ℤ x′) =
     solve-le (v (pos 1)) (v x ⊝ v x′)
-    (omega (arith, le-fact (v (pos p) ⊗ v δ) (v x ⊝ v x′) hx, le-fact (v (pos p) ⊗ v (pos 1)) (v (pos p) ⊗ v δ) (mul-mono (pos p) (pos-nonneg p) hδ)))
+    (omega (arith, le-fact (v (pos p) ⊗ v δ) (v x ⊝ v x′) hx, le-fact (v (pos p) ⊗ v (pos 1)) (v (pos p) ⊗ v δ) (mul-mono (pos p) (pos-mono zero-le) hδ)))
     in
     let down : d ≤ℤ negsuc 0 =
     solve-le (v d) (v (negsuc 0))
     (omega (
       arith,
       eq-fact (v d) (v (pos c) ⊗ (v x′ ⊝ v x)) hd,
-      le-fact (v (pos c) ⊗ v (pos 1)) (v (pos c) ⊗ (v x ⊝ v x′)) (mul-mono (pos c) (pos-nonneg c) falls),
+      le-fact (v (pos c) ⊗ v (pos 1)) (v (pos c) ⊗ (v x ⊝ v x′)) (mul-mono (pos c) (pos-mono zero-le) falls),
     ))
     in
     let t : ℕ = suc (natAbs (x -ℤ S)) in
     omega (
       arith,
       le-fact (v S) (v x ⊕ v (pos t) ⊗ v d) hS,
-      le-fact (v (pos t) ⊗ v d) (v (pos t) ⊗ v (negsuc 0)) (mul-mono (pos t) (pos-nonneg t) down),
+      le-fact (v (pos t) ⊗ v d) (v (pos t) ⊗ v (negsuc 0)) (mul-mono (pos t) (pos-mono zero-le) down),
       abs-fact (v x ⊝ v S),
     )
 
@@ -64,7 +64,7 @@ module _ (loop : Loop) (p : ℕ) (X X′ D E : List ℤ) (D-entries : length D �
           (omega (
             arith,
             le-fact (v x ⊕ v x′) (v c) h,
-            le-fact (v (pos t) ⊗ (v d ⊕ v e)) (v (pos t) ⊗ v (pos 0)) (mul-mono (pos t) (pos-nonneg t) k),
+            le-fact (v (pos t) ⊗ (v d ⊕ v e)) (v (pos t) ⊗ v (pos 0)) (mul-mono (pos t) (pos-mono zero-le) k),
           ))
 
   step-on : (t : ℕ) → Step loop p (on t X D) (on t X′ E)

@@ -1,28 +1,28 @@
 -- A lasso bounds the runs that follow its stem: start and kept give the invariant at every state, so each step also meets the added row, and the
 -- ranking argument runs over the longer loop.
-use Prim.Native.Nat.{ℕ, _≤_, _<_}
+use Prim.Native.Nat.{ℕ, _≤_, zero-le}
 use mathlib.Core.Path.{_≡_, sym, _∙_}
 use mathlib.Core.List.{List, [], _∷_}
 use native.Mathlib.Omega.{arith}
-use lib.IntN.{ℤ, pos, negsuc, negℤ, _+ℤ_, _-ℤ_, _*ℤ_, zero-*ℤ}
+use lib.IntN.{ℤ, pos, negsuc, negℤ, _+ℤ_, _*ℤ_, zero-*ℤ}
 use lib.ListN.{length, getD}
 use lib.Signed.{_≤ℤ_}
 use Rattle.whole.specs.Sums.{dot, sum, Each}
-use Rattle.whole.proofs.Solve.{v, _⊕_, _⊝_, _⊗_, neg, solve, solve-le, eq-fact, le-fact}
-use Rattle.whole.proofs.Ring.{neg-*ℤ, pos-nonneg, mul-mono, mul-cancel}
+use Rattle.whole.proofs.Solve.{v, _⊕_, _⊗_, neg, solve-le, eq-fact, le-fact}
+use Rattle.whole.proofs.Ring.{neg-*ℤ, pos-mono, mul-mono, mul-cancel}
 use Rattle.whole.proofs.EachLaws.{each-append}
 use Rattle.whole.proofs.SumLaws.{dot-scale, dot-zeros}
-use Rattle.theory.specs.Loops.{A, A′, b, Loop, Meets, Step, Run, Endless}
+use Rattle.theory.specs.Loops.{A, A′, b, Loop, Meets, Step, Run}
 use Rattle.theory.specs.Rankings.{rank, start, fall, bound, Bounds}
 use Rattle.theory.specs.Lassos.{Lasso, NonNegativeLasso, LassoHolds, stemOf, added, longer, Invariant, AfterStem, LassoPromise}
-use Rattle.theory.proofs.Steps.{columns, weighted, columns-are}
+use Rattle.theory.proofs.Steps.{weighted, columns-are}
 use Rattle.theory.proofs.RankingTheorems.{no-difference, no-endless, ranking-bounds-runs}
 
 -- a scaled number that is not below 0
 unscale : (k : ℕ) (z : ℤ) → 1 ≤ k → pos 0 ≤ℤ (pos k *ℤ z) → pos 0 ≤ℤ z
 unscale k z h n =
     mul-cancel (pos k)
-    (solve-le (v (pos 1)) (v (pos k)) (omega arith))
+    (pos-mono h)
     (solve-le (v (pos k) ⊗ v (pos 0)) (v (pos k) ⊗ v z) (omega (arith, le-fact (v (pos 0)) (v (pos k) ⊗ v z) n)))
 
 module _ (loop : Loop) (c : Lasso) (nonneg : NonNegativeLasso c) (k-positive : 1 ≤ c .k) (k2-positive : 1 ≤ c .k2) (holds : LassoHolds loop c) where
@@ -57,7 +57,7 @@ module _ (loop : Loop) (c : Lasso) (nonneg : NonNegativeLasso c) (k-positive : 1
       (columns-are loop (c .H) A (pos (c .h0)) (c .s) x (t .before) (λ j h. no-difference _ _ (holds .kept-now j h)))
       (columns-are loop (c .H) A′ (negℤ (pos (c .k2))) (c .s) x′ (t .after) (λ j h. holds .kept-next j h ∙ sym (neg-*ℤ (pos (c .k2)) (getD (c .s) j (pos 0)))))
       (holds .kept-right)
-      (mul-mono (pos (c .h0)) (pos-nonneg (c .h0)) i))
+      (mul-mono (pos (c .h0)) (pos-mono zero-le) i))
     where
       scaled : (k2 h0 s0 Hb HA·x HA′·x′ s·x s·x′ : ℤ) → (HA·x +ℤ HA′·x′) ≤ℤ (pos 1 *ℤ Hb) → HA·x ≡ h0 *ℤ s·x → HA′·x′ ≡ negℤ k2 *ℤ s·x′
           → (Hb +ℤ h0 *ℤ s0) ≤ℤ (k2 *ℤ s0) → (h0 *ℤ pos 0) ≤ℤ (h0 *ℤ (s·x +ℤ s0)) → pos 0 ≤ℤ (k2 *ℤ (s·x′ +ℤ s0))

@@ -4,3 +4,4 @@ pub mod ExclusionTheorems
 pub mod LassoTheorems
 pub mod WeightTheorems
 pub mod Decisions
+pub mod SampleTheorems

@@ -1,22 +1,21 @@
 -- A ranking's multipliers give a linear ranking function (000, Theorem 1), and a linear ranking function bounds the runs.
 -- `ranking-is-linear-ranking` and `ranking-bounds-runs` are the theorems; `rank-bounds-runs` is the argument that the lasso shares.
 use Prim.Native.Nat.{ℕ, zero, suc, _*_, _≤_, _<_, zero-le}
-use mathlib.Core.Path.{_≡_, refl, sym, ap, _∙_}
+use mathlib.Core.Path.{_≡_, sym, _∙_}
 use mathlib.Core.List.{List, [], _∷_}
-use mathlib.Core.Bool.{cond}
 use native.Mathlib.Nat.{le-div-iff-mul-le}
 use native.Mathlib.Omega.{arith}
 use lib.IntN.{ℤ, pos, negsuc, natAbs, negℤ, _+ℤ_, _-ℤ_, _*ℤ_, zero-*ℤ}
 use lib.ListN.{length, getD}
 use lib.Signed.{_≤ℤ_, _<ℤ_}
-use Rattle.whole.specs.Sums.{dot, sum, tabulate, less}
-use Rattle.whole.proofs.Solve.{v, _⊕_, _⊝_, _⊗_, neg, solve, solve-le, solve-lt, eq-fact, le-fact, lt-fact, abs-fact}
+use Rattle.whole.specs.Sums.{dot, sum, tabulate}
+use Rattle.whole.proofs.Solve.{v, _⊕_, _⊝_, _⊗_, neg, solve, solve-le, eq-fact, le-fact, lt-fact, abs-fact}
 use Rattle.whole.proofs.Compare.{le-false}
 use Rattle.whole.proofs.SumLaws.{sum-add, sum-less-weights}
 use Rattle.whole.proofs.Tables.{length-tabulate, tabulate-at}
 use Rattle.theory.specs.Loops.{A, A′, b, Loop, Step, Run, Endless}
 use Rattle.theory.specs.Rankings.{Ranking, NonNegative, RankingHolds, rank, start, fall, bound, Ranks, RanksFractions, Bounds}
-use Rattle.theory.proofs.Steps.{columns, weighted, columns-are}
+use Rattle.theory.proofs.Steps.{weighted, columns-are}
 
 -- ---- 000, Theorem 1
 

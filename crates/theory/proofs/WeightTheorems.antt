@@ -1,15 +1,15 @@
 -- Rows without weight change nothing, and a common factor of the multipliers multiplies rank, start and fall by it. Both are one argument (`multiplied`):
 -- a second loop and multipliers whose every weighted sum is k times the first's.
-use Prim.Native.Nat.{ℕ, zero, suc, _≤_, _<_}
+use Prim.Native.Nat.{ℕ, _≤_, zero-le}
 use mathlib.Core.Path.{_≡_, refl, sym, ap, _∙_}
 use mathlib.Core.Logic.{⊎-elim}
-use mathlib.Core.List.{List, [], _∷_, map}
+use mathlib.Core.List.{List}
 use native.Mathlib.Omega.{arith}
-use lib.IntN.{ℤ, pos, negsuc, negℤ, _+ℤ_, _-ℤ_, _*ℤ_, zero-*ℤ, *ℤ-zero, +ℤ-idl}
+use lib.IntN.{ℤ, pos, negsuc, _+ℤ_, _-ℤ_, _*ℤ_, zero-*ℤ, *ℤ-zero, +ℤ-idl}
 use lib.Signed.{_≤ℤ_, _<ℤ_}
-use Rattle.whole.specs.Sums.{dot, sum, tabulate, scale, less}
-use Rattle.whole.proofs.Solve.{v, _⊝_, _⊗_, neg, solve, solve-le, solve-lt, eq-fact, le-fact, lt-fact}
-use Rattle.whole.proofs.Ring.{one-*ℤ, *ℤ-neg, ≤ℤ-antisym, ≡-≤ℤ, ≤ℤ-or-<ℤ, pos-nonneg, mul-mono, mul-cancel}
+use Rattle.whole.specs.Sums.{dot, sum, scale, less}
+use Rattle.whole.proofs.Solve.{v, _⊝_, _⊗_, solve, solve-le, solve-lt, eq-fact, le-fact, lt-fact}
+use Rattle.whole.proofs.Ring.{one-*ℤ, *ℤ-neg, ≤ℤ-antisym, ≡-≤ℤ, ≤ℤ-or-<ℤ, pos-mono, mul-mono, mul-cancel}
 use Rattle.whole.proofs.SumLaws.{scale-one, sum-scale-weights, sum-less-weights}
 use Rattle.whole.proofs.Tables.{map-tabulate, tabulate-same}
 use Rattle.theory.specs.Loops.{Row, A, A′, b, Loop, over}
@@ -18,10 +18,7 @@ use Rattle.theory.specs.Weights.{PutIn, none, old, new, times, Multiplie
 
 -- a positive factor comes off
 equal-off : (k : ℕ) {x y : ℤ} → 1 ≤ k → pos k *ℤ x ≡ pos k *ℤ y → x ≡ y
-equal-off k h e = ≤ℤ-antisym (mul-cancel (pos k) one (≡-≤ℤ e)) (mul-cancel (pos k) one (≡-≤ℤ (sym e)))
-  where
-    one : pos 1 ≤ℤ pos k
-    one = solve-le (v (pos 1)) (v (pos k)) (omega arith)
+equal-off k h e = ≤ℤ-antisym (mul-cancel (pos k) (pos-mono h) (≡-≤ℤ e)) (mul-cancel (pos k) (pos-mono h) (≡-≤ℤ (sym e)))
 
 module _ (n k : ℕ) (rows rows′ : List Row) (c c′ : Ranking) (k-positive : 1 ≤ k)
     (Y-sums : (f : Row → ℤ) → sum (c′ .Y) f rows′ ≡ pos k *ℤ sum (c .Y) f rows)
@@ -62,7 +59,7 @@ module _ (n k : ℕ) (rows rows′ : List Row) (c c′ : Ranking) (k-positive : 
           (omega (
             arith,
             eq-fact (v y) (v (pos k) ⊗ v x) e,
-            le-fact (v (pos k) ⊗ v x) (v (pos k) ⊗ v (negsuc 0)) (mul-mono (pos k) (pos-nonneg k) minus-one),
+            le-fact (v (pos k) ⊗ v x) (v (pos k) ⊗ v (negsuc 0)) (mul-mono (pos k) (pos-mono zero-le) minus-one),
           ))
 
   conditions-here : RankingHolds loop′ c′ → RankingHolds loop c
@@ -80,7 +77,7 @@ module _ (n k : ℕ) (rows rows′ : List Row) (c c′ : Ranking) (k-positive : 
             arith,
             eq-fact (v y) (v (pos k) ⊗ v x) e,
             lt-fact (v y) (v (pos 0)) h,
-            le-fact (v (pos k) ⊗ v (pos 0)) (v (pos k) ⊗ v x) (mul-mono (pos k) (pos-nonneg k) i),
+            le-fact (v (pos k) ⊗ v (pos 0)) (v (pos k) ⊗ v x) (mul-mono (pos k) (pos-mono zero-le) i),
           )
 
       below : (x y : ℤ) → y ≡ pos k *ℤ x → y <ℤ pos 0 → x <ℤ pos 0

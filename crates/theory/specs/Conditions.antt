@@ -4,9 +4,9 @@ use Prim.Native.Nat.{ℕ}
 use mathlib.Core.Bool.{Bool}
 use mathlib.Core.List.{List, [], _∷_, _++_}
 use lib.IntN.{ℤ, pos, negℤ, _+ℤ_, _-ℤ_, _*ℤ_}
-use lib.ListN.{getD}
+use lib.ListN.{length, getD}
 use lib.Signed.{leZ, ltZ}
-use Rattle.refusal.specs.Tests.{Test, _at_unless_}
+use Rattle.refusal.specs.Tests.{Told, Test, _at_unless_, first}
 use Rattle.whole.specs.Same.{sameZ}
 use Rattle.whole.specs.Sums.{dot, sum, tabulate, less}
 use Rattle.theory.specs.Loops.{Row, A, A′, b, Loop}
@@ -84,3 +84,14 @@ lassoTests n =
     ((45 at-each n unless λ j p. sameZ (H-sum p (A′ j)) (negℤ (times-s (p .values .k2) j p))) ++
     ((46 at (λ p. 0) unless λ p. leZ (H-sum p b +ℤ pos (p .values .h0) *ℤ p .values .s0) (pos (p .values .k2) *ℤ p .values .s0)) ∷
     of ranked (rankingTests n))))))
+
+-- ---- what the tests tell of a loop and a certificate's values
+
+unfoldable pub rankingTold : Loop → Ranking → Told
+rankingTold loop c = first (rankingTests (loop .variables)) (record { loop = loop; values = c })
+
+unfoldable pub exclusionTold : Loop → Exclusion → Told
+exclusionTold loop c = first (exclusionTests (length (loop .rows))) (record { loop = loop; values = c })
+
+unfoldable pub lassoTold : Loop → Lasso → Told
+lassoTold loop c = first (lassoTests (loop .variables)) (record { loop = loop; values = c })

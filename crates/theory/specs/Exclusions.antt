@@ -15,6 +15,7 @@ pub record Exclusion : Type 0 where
   pub «V» : List ℤ
   pub W : List ℤ
 
+-- the lists have one entry per variable
 pub record OfSize (loop : Loop) (c : Exclusion) : Type 0 where
   pub U-entries : length (c .U) ≡ loop .variables
   pub V-entries : length (c .«V») ≡ loop .variables

@@ -21,6 +21,7 @@ pub record Lasso : Type 0 where
   pub h0 : ℕ
   pub ranking : Ranking
 
+-- no multiplier is below 0 (h0 is a natural number)
 abbrev pub NonNegativeLasso : Lasso → Type 0
 NonNegativeLasso c = Each NonNeg (c .T) × Each NonNeg (c .H) × NonNegative (c .ranking)
 

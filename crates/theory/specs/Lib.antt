@@ -4,3 +4,5 @@ pub mod Exclusions
 pub mod Lassos
 pub mod Weights
 pub mod Conditions
+pub mod Samples
+pub mod Table

@@ -26,6 +26,7 @@ pub record Loop : Type 0 where
   pub variables : ℕ
   pub rows : List Row
 
+-- some rows over n variables
 abbrev pub over : ℕ → List Row → Loop
 over n rows = record { variables = n; rows = rows }
 

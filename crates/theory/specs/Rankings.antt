@@ -1,4 +1,5 @@
--- Rankings: document 000, Figure 1, and 01, "Conditions".
+-- Rankings: document 000, Figure 1, and 01, "Conditions": the conditions as mathematics, what follows from the multipliers, and what is promised.
+-- There is one multiplier per row. Those that are missing count 0 and those past the last row count nothing, so no statement has to ask for their number.
 use Prim.Native.Nat.{ℕ, _+_, _/_, _≤_, _<_}
 use mathlib.Core.Path.{_≡_}
 use mathlib.Core.Bool.{cond}
@@ -7,13 +8,14 @@ use lib.IntN.{ℤ, pos, natAbs, negℤ, _+ℤ_, _-ℤ_, _*ℤ_}
 use lib.ListN.{length}
 use lib.Signed.{ltZ, _≤ℤ_, _<ℤ_}
 use Rattle.whole.specs.Sums.{dot, sum, tabulate, less, Each, NonNeg}
-use Rattle.theory.specs.Loops.{Row, A, A′, b, Loop, Step, Run, Endless}
+use Rattle.theory.specs.Loops.{A, A′, b, Loop, Step, Run, Endless}
 
 -- a ranking: one multiplier Y and one Z per row (λ1 and λ2 of 000)
 pub record Ranking : Type 0 where
   pub Y : List ℤ
   pub Z : List ℤ
 
+-- no multiplier is below 0
 abbrev pub NonNegative : Ranking → Type 0
 NonNegative c = Each NonNeg (c .Y) × Each NonNeg (c .Z)
 

@@ -22,21 +22,6 @@ module _ {B : Type 0} (P : B → Type 0) where
   each-append [] ys e f = f
   each-append (x ∷ xs) ys e f = (e .0, each-append xs ys (e .1) f)
 
-  pub each-front : (xs ys : List B) → Each P (xs ++ ys) → Each P xs
-  unfolding Each
-  each-front [] ys e = tt
-  each-front (x ∷ xs) ys e = (e .0, each-front xs ys (e .1))
-
-  pub each-back : (xs ys : List B) → Each P (xs ++ ys) → Each P ys
-  unfolding Each
-  each-back [] ys e = e
-  each-back (x ∷ xs) ys e = each-back xs ys (e .1)
-
-  pub each-then : (Q : B → Type 0) (bs : List B) → ((b : B) → P b → Q b) → Each P bs → Each Q bs
-  unfolding Each
-  each-then Q [] f e = tt
-  each-then Q (b ∷ bs) f e = (f b (e .0), each-then Q bs f (e .1))
-
   pub each-both : (Q R : B → Type 0) (bs : List B) → ((b : B) → P b → Q b → R b) → Each P bs → Each Q bs → Each R bs
   unfolding Each
   each-both Q R [] f e g = tt

@@ -74,8 +74,8 @@ leZ-no {a} {b} t = ⊎-elim (λ h. absurd (T-not (leZ a b) (h .le) t)) (λ h. h)
 
 -- ---- the order with sums and products
 
-pub pos-nonneg : (n : ℕ) → pos 0 ≤ℤ pos n
-pos-nonneg n = solve-le (v (pos 0)) (v (pos n)) (omega arith)
+pub pos-mono : {m n : ℕ} → m ≤ n → pos m ≤ℤ pos n
+pos-mono {m} {n} h = solve-le (v (pos m)) (v (pos n)) (omega arith)
 
 pub +ℤ-mono : {a b c d : ℤ} → a ≤ℤ b → c ≤ℤ d → (a +ℤ c) ≤ℤ (b +ℤ d)
 +ℤ-mono {a} {b} {c} {d} h k = solve-le (v a ⊕ v c) (v b ⊕ v d) (omega (arith, le-fact (v a) (v b) h, le-fact (v c) (v d) k))

@@ -1,0 +1,80 @@
+-- Loops and certificates of 01's sample sheet, as lists of rows: those that theorems speak of, and those that fix the order of the conditions.
+use Prim.Native.Nat.{ℕ}
+use mathlib.Core.List.{List, [], _∷_, map}
+use lib.IntN.{ℤ, pos, negsuc}
+use Rattle.theory.specs.Loops.{Row, Loop, over}
+use Rattle.theory.specs.Rankings.{Ranking}
+use Rattle.theory.specs.Exclusions.{Exclusion}
+use Rattle.theory.specs.Lassos.{Lasso}
+
+-- a row, written in a line
+abbrev pub row : List ℤ → List ℤ → ℤ → Row
+row a a′ right = record { now = a; next = a′; right = right }
+
+-- a ranking, its multipliers written as they are on file
+abbrev pub ranking : List ℕ → List ℕ → Ranking
+ranking Y Z = record { Y = map pos Y; Z = map pos Z }
+
+-- loop P over (p, q): -p + q <= -2; -p + p′ <= -1; q - q′ <= 0, and S1's ranking of it
+unfoldable pub P : Loop
+P =
+    over 2
+    (row (negsuc 0 ∷ pos 1 ∷ []) (pos 0 ∷ pos 0 ∷ []) (negsuc 1) ∷
+    row (negsuc 0 ∷ pos 0 ∷ []) (pos 1 ∷ pos 0 ∷ []) (negsuc 0) ∷
+    row (pos 0 ∷ pos 1 ∷ []) (pos 0 ∷ negsuc 0 ∷ []) (pos 0) ∷ [])
+
+unfoldable pub S1 : Ranking
+S1 = ranking (1 ∷ 0 ∷ 0 ∷ []) (0 ∷ 1 ∷ 1 ∷ [])
+
+-- S7: -x <= 0; 2x + x′ <= 10; -2x - x′ <= -10, and q 1, U -2, V 1, W 4
+unfoldable pub S7-loop : Loop
+S7-loop =
+    over 1
+    (row (negsuc 0 ∷ []) (pos 0 ∷ []) (pos 0) ∷
+    row (pos 2 ∷ []) (pos 1 ∷ []) (pos 10) ∷
+    row (negsuc 1 ∷ []) (negsuc 0 ∷ []) (negsuc 9) ∷ [])
+
+-- q, U, V and W of an exclusion over one variable
+abbrev pub excluding : ℕ → ℤ → ℤ → ℤ → Exclusion
+excluding q U one-V W = record { q = q; U = U ∷ []; «V» = one-V ∷ []; W = W ∷ [] }
+
+unfoldable pub S7 : Exclusion
+S7 = excluding 1 (negsuc 1) (pos 1) (pos 4)
+
+-- S9: 2x <= 1; -2x <= -1; x′ - x <= 0; x - x′ <= 0
+unfoldable pub S9-loop : Loop
+S9-loop =
+    over 1
+    (row (pos 2 ∷ []) (pos 0 ∷ []) (pos 1) ∷
+    row (negsuc 1 ∷ []) (pos 0 ∷ []) (negsuc 0) ∷
+    row (negsuc 0 ∷ []) (pos 1 ∷ []) (pos 0) ∷
+    row (pos 1 ∷ []) (negsuc 0 ∷ []) (pos 0) ∷ [])
+
+-- S10: a lasso over (x, y), stem -y′ <= -1, loop -x <= 0; -x + y + x′ <= 0; y - y′ <= 0
+unfoldable pub S10-loop : Loop
+S10-loop =
+    over 2
+    (row (negsuc 0 ∷ pos 0 ∷ []) (pos 0 ∷ pos 0 ∷ []) (pos 0) ∷
+    row (negsuc 0 ∷ pos 1 ∷ []) (pos 1 ∷ pos 0 ∷ []) (pos 0) ∷
+    row (pos 0 ∷ pos 1 ∷ []) (pos 0 ∷ negsuc 0 ∷ []) (pos 0) ∷ [])
+
+-- stem rows, s0, k, T, k2, H, h0 and the ranking of a lasso with s = (0, 1)
+abbrev pub lasso : List Row → ℤ → ℕ → List ℕ → ℕ → List ℕ → ℕ → Ranking → Lasso
+lasso stem s0 k T k2 H h0 c =
+    record { stem = stem; s = pos 0 ∷ pos 1 ∷ []; s0 = s0; k = k; T = map pos T; k2 = k2; H = map pos H; h0 = h0; ranking = c }
+
+abbrev pub S10-stem : List Row
+S10-stem = row (pos 0 ∷ pos 0 ∷ []) (pos 0 ∷ negsuc 0 ∷ []) (negsuc 0) ∷ []
+
+abbrev pub S10-ranking : Ranking
+S10-ranking = ranking (1 ∷ 0 ∷ 0 ∷ 0 ∷ []) (0 ∷ 1 ∷ 0 ∷ 1 ∷ [])
+
+unfoldable pub S10 : Lasso
+S10 = lasso S10-stem (negsuc 0) 1 (1 ∷ []) 1 (0 ∷ 0 ∷ 1 ∷ []) 1 S10-ranking
+
+-- S14: -x <= 0; x′ - x <= -2, and Y (1, 0), Z (0, 1)
+unfoldable pub S14-loop : Loop
+S14-loop = over 1 (row (negsuc 0 ∷ []) (pos 0 ∷ []) (pos 0) ∷ row (negsuc 0 ∷ []) (pos 1 ∷ []) (negsuc 1) ∷ [])
+
+unfoldable pub S14 : Ranking
+S14 = ranking (1 ∷ 0 ∷ []) (0 ∷ 1 ∷ [])

@@ -1,0 +1,89 @@
+-- What the conditions tell of the samples of 01, of the sheet's second certificate, and of each condition where it is the first to fail; and the rank,
+-- start, fall and bounds of the samples. Two tables, a line being what is computed and what it has to be; `SampleTheorems` computes them.
+use Prim.Native.Nat.{ℕ}
+use mathlib.Core.List.{List, [], _∷_}
+use lib.IntN.{ℤ, pos, negsuc}
+use Rattle.refusal.specs.Tests.{Told, done, refused, first}
+use Rattle.whole.specs.Sums.{dot, sum, tabulate, scale, add, less}
+use Rattle.theory.specs.Loops.{Loop, over}
+use Rattle.theory.specs.Rankings.{Ranking, rank, start, fall, bound}
+use Rattle.theory.specs.Lassos.{longer}
+use Rattle.theory.specs.Conditions.{rankingTold, exclusionTold, lassoTold, rankingTests, exclusionTests, lassoTests, _at-each_unless_, of}
+use Rattle.theory.specs.Samples.{row, ranking, excluding, lasso, P, S1, S7-loop, S7, S9-loop, S10-loop, S10-stem, S10-ranking, S10, S14-loop, S14}
+
+unfoldable pub told : List (Told × Told)
+told =
+    -- P: S1, S2, S3, and the sheet's second certificate
+    (rankingTold P S1, done) ∷
+    (rankingTold P (ranking (2 ∷ 0 ∷ 0 ∷ []) (0 ∷ 2 ∷ 2 ∷ [])), done) ∷
+    (rankingTold P (ranking (0 ∷ 0 ∷ 0 ∷ []) (0 ∷ 0 ∷ 0 ∷ [])), refused 24 0) ∷
+    (rankingTold P (ranking (1 ∷ 0 ∷ 0 ∷ []) (0 ∷ 1 ∷ 0 ∷ [])), refused 22 1) ∷
+    -- YA′, (Y - Z)A and Z(A + A′) in either column
+    (rankingTold P (ranking (1 ∷ 1 ∷ 0 ∷ []) (0 ∷ 1 ∷ 1 ∷ [])), refused 21 0) ∷
+    (rankingTold P (ranking (1 ∷ 0 ∷ 1 ∷ []) (0 ∷ 1 ∷ 0 ∷ [])), refused 21 1) ∷
+    (rankingTold P (ranking (1 ∷ 0 ∷ 0 ∷ []) (0 ∷ 0 ∷ 1 ∷ [])), refused 22 0) ∷
+    (rankingTold P (ranking (1 ∷ 0 ∷ 0 ∷ []) (1 ∷ 0 ∷ 0 ∷ [])), refused 23 0) ∷
+    (rankingTold (over 2 (row (pos 0 ∷ pos 1 ∷ []) (pos 0 ∷ pos 0 ∷ []) (negsuc 0) ∷ [])) (ranking (1 ∷ []) (1 ∷ [])), refused 23 1) ∷
+    -- S12, S13, S14
+    (rankingTold (over 1 []) (ranking [] []), refused 24 0) ∷
+    (exclusionTold (over 1 []) (excluding 1 (pos 0) (pos 0) (pos 0)), done) ∷
+    (rankingTold (over 1 (row (pos 0 ∷ []) (pos 0 ∷ []) (negsuc 0) ∷ [])) (ranking (0 ∷ []) (1 ∷ [])), done) ∷
+    (rankingTold S14-loop S14, done) ∷
+    -- S7, S8, S9; then either condition in another row, all rows of the direction first
+    (exclusionTold S7-loop S7, done) ∷
+    (exclusionTold S7-loop (excluding 2 (negsuc 3) (pos 2) (pos 8)), done) ∷
+    (exclusionTold S9-loop (excluding 2 (pos 0) (pos 0) (pos 1)), done) ∷
+    (exclusionTold S9-loop (excluding 1 (pos 0) (pos 0) (pos 1)), refused 32 0) ∷
+    (exclusionTold S7-loop (excluding 1 (pos 2) (negsuc 0) (negsuc 0)), refused 31 0) ∷
+    (exclusionTold S7-loop (excluding 1 (negsuc 0) (pos 1) (pos 4)), refused 31 1) ∷
+    (exclusionTold S7-loop (excluding 1 (negsuc 2) (pos 1) (pos 0)), refused 31 2) ∷
+    (exclusionTold S7-loop (excluding 1 (negsuc 1) (pos 1) (pos 0)), refused 32 0) ∷
+    (exclusionTold S7-loop (excluding 1 (negsuc 1) (pos 1) (pos 5)), refused 32 1) ∷
+    (exclusionTold S7-loop (excluding 1 (negsuc 1) (pos 1) (pos 3)), refused 32 2) ∷
+    -- S10, S11; then start, kept and the ranking, each in turn
+    (lassoTold S10-loop S10, done) ∷
+    (exclusionTold S10-loop (record { q = 1; U = pos 0 ∷ pos 0 ∷ []; «V» = pos 0 ∷ pos 0 ∷ []; W = pos 0 ∷ pos 0 ∷ [] }), done) ∷
+    (lassoTold S10-loop (lasso (row (pos 1 ∷ pos 0 ∷ []) (pos 0 ∷ negsuc 0 ∷ []) (negsuc 0) ∷ []) (negsuc 0) 1 (1 ∷ []) 1 (0 ∷ 0 ∷ 1 ∷ []) 1 S10-ranking), refused 41 0) ∷
+    (lassoTold S10-loop (lasso S10-stem (negsuc 0) 1 (0 ∷ []) 1 (0 ∷ 0 ∷ 1 ∷ []) 1 S10-ranking), refused 42 1) ∷
+    (lassoTold S10-loop (lasso S10-stem (negsuc 1) 1 (1 ∷ []) 1 (0 ∷ 0 ∷ 1 ∷ []) 1 S10-ranking), refused 43 0) ∷
+    (lassoTold S10-loop (lasso S10-stem (negsuc 0) 1 (1 ∷ []) 1 (0 ∷ 0 ∷ 1 ∷ []) 0 S10-ranking), refused 44 1) ∷
+    (lassoTold S10-loop (lasso S10-stem (negsuc 0) 1 (1 ∷ []) 2 (0 ∷ 0 ∷ 1 ∷ []) 1 S10-ranking), refused 45 1) ∷ (
+      lassoTold
+          (over 2 (row (pos 0 ∷ pos 1 ∷ []) (pos 0 ∷ negsuc 0 ∷ []) (pos 1) ∷ []))
+          (lasso S10-stem (negsuc 0) 1 (1 ∷ []) 1 (1 ∷ []) 1 (ranking (0 ∷ 0 ∷ []) (0 ∷ 0 ∷ []))),
+      refused 46 0,
+    ) ∷
+    (lassoTold S10-loop (lasso S10-stem (negsuc 0) 1 (1 ∷ []) 1 (0 ∷ 0 ∷ 1 ∷ []) 1 (ranking (1 ∷ 0 ∷ 0 ∷ 0 ∷ []) (0 ∷ 1 ∷ 0 ∷ 0 ∷ []))), refused 22 1) ∷
+    []
+
+-- rank, start, fall, a state and the bound there
+pub record Numbers : Type 0 where
+  pub r : List ℤ
+  pub δ0 : ℤ
+  pub δ : ℤ
+  pub at-x : ℕ
+
+abbrev numbers : Loop → Ranking → List ℤ → Numbers
+numbers loop c x =
+    record { r = rank loop c; δ0 = start loop c; δ = fall loop c; at-x = bound (rank loop c) (start loop c) (fall loop c) x }
+
+unfoldable pub computed : List (Numbers × Numbers)
+computed =
+    -- S1 with S4, S5, S6; S2; S10; S13; S14
+    (numbers P S1 (pos 5 ∷ pos 1 ∷ []), record { r = pos 1 ∷ negsuc 0 ∷ []; δ0 = pos 2; δ = pos 1; at-x = 3 }) ∷
+    (numbers P S1 (pos 3 ∷ pos 1 ∷ []), record { r = pos 1 ∷ negsuc 0 ∷ []; δ0 = pos 2; δ = pos 1; at-x = 1 }) ∷
+    (numbers P S1 (pos 2 ∷ pos 1 ∷ []), record { r = pos 1 ∷ negsuc 0 ∷ []; δ0 = pos 2; δ = pos 1; at-x = 0 }) ∷
+    (numbers P (ranking (2 ∷ 0 ∷ 0 ∷ []) (0 ∷ 2 ∷ 2 ∷ [])) (pos 5 ∷ pos 1 ∷ []), record { r = pos 2 ∷ negsuc 1 ∷ []; δ0 = pos 4; δ = pos 2; at-x = 3 }) ∷
+    (numbers (longer S10-loop S10) S10-ranking (pos 5 ∷ pos 1 ∷ []), record { r = pos 1 ∷ pos 0 ∷ []; δ0 = pos 0; δ = pos 1; at-x = 6 }) ∷
+    (numbers (over 1 (row (pos 0 ∷ []) (pos 0 ∷ []) (negsuc 0) ∷ [])) (ranking (0 ∷ []) (1 ∷ [])) (pos 7 ∷ []), record { r = pos 0 ∷ []; δ0 = pos 0; δ = pos 1; at-x = 1 }) ∷
+    (numbers S14-loop S14 (negsuc 0 ∷ []), record { r = pos 1 ∷ []; δ0 = pos 0; δ = pos 2; at-x = 0 }) ∷
+    (numbers S14-loop S14 (pos 0 ∷ []), record { r = pos 1 ∷ []; δ0 = pos 0; δ = pos 2; at-x = 1 }) ∷
+    (numbers S14-loop S14 (pos 1 ∷ []), record { r = pos 1 ∷ []; δ0 = pos 0; δ = pos 2; at-x = 1 }) ∷
+    (numbers S14-loop S14 (pos 2 ∷ []), record { r = pos 1 ∷ []; δ0 = pos 0; δ = pos 2; at-x = 2 }) ∷
+    []
+
+-- opens all that the tables compute with
+unfoldable pub computing : Unit {0}
+unfolding
+    told computed rankingTold exclusionTold lassoTold rankingTests exclusionTests lassoTests _at-each_unless_ of first tabulate sum dot scale add less rank start fall bound P S1 S7-loop S7 S9-loop S10-loop S10 S14-loop S14
+computing = tt
