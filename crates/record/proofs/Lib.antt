@@ -1,5 +1,6 @@
 pub mod Edges
 pub mod FieldLaws
+pub mod Fits
 pub mod Lengths
 pub mod Literals
 pub mod Minus

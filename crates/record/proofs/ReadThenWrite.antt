@@ -65,13 +65,30 @@ digits-at width bs place all there =
     let long : length part ≡ width = length-take-le width (drop place bs) (simp length-drop (omega arith)) in
     rw long at (digits-little part (bytes-take width (drop place bs) (bytes-drop place bs all)))
 
+-- n and m of a sound record are within the limits, whether they stand in its body or came as arguments
+pub counts-in-range : (r : Reader) → Sound r → (is-loop (R.kind r) || is-certificate (R.kind r)) ≡ true
+    → (within variables (pos (R.counts-read r .n)) && within rows (pos (R.counts-read r .m))) ≡ true
+unfolding R.counts-read R.kind counts is-loop is-certificate in-range values variable-count row-count width held littleAt R.count-list R.arguments-fit
+counts-in-range r s known = by-kind (kindOf (R.kind-number r)) refl (s .arguments) (s .counts-fit) known
+  where
+    by-kind : (k : Kind) → kindOf (R.kind-number r) ≡ k → R.arguments-fit r ≡ true → in-range (counts (R.kind r)) (R.count-list r) ≡ true → (is-loop (R.kind r) || is-certificate (R.kind r)) ≡ true → (within variables (pos (R.counts-read r .n)) && within rows (pos (R.counts-read r .m))) ≡ true
+    by-kind loop e a c w =
+        let n-fits = within variables (pos (littleAt 2 (r .bytes) 6)) in
+        let m-fits = within rows (pos (littleAt 2 (r .bytes) 8)) in
+        let both = both-true n-fits (m-fits && true) (rw (e, drop-drop) at c) in
+        rw e (true-both n-fits m-fits (both .0) (both-true m-fits true (both .1) .0))
+    by-kind ranking e a c w = rw e (rw e at a)
+    by-kind exclusion e a c w = rw e (rw e at a)
+    by-kind lasso e a c w = rw e (rw e at a)
+    by-kind other e a c w = absurd (false≢true (rw e at w))
+
 -- what writes a reading's answer back
-abbrev back : Reader → ℕ → Writer
+abbrev pub back : Reader → ℕ → Writer
 back r room = record { kind-number = R.kind-number r; n = R.counts-read r .n; m = R.counts-read r .m; list = R.list r; room = room }
 
 module _ (r : Reader) (room : ℕ) where
   -- the writer finds the counts that the reader found
-  counts-back : W.counts-given (back r room) ≡ R.counts-read r
+  pub counts-back : W.counts-given (back r room) ≡ R.counts-read r
   unfolding W.counts-given W.kind W.ms-given R.counts-read R.kind R.list R.fields R.list-start listed ahead counts is-loop is-lasso values widths row-count width held littleAt
   counts-back = by-kind (kindOf (R.kind-number r)) refl
     where
@@ -130,21 +147,6 @@ module _ (r : Reader) (room : ℕ) where
         rw (length-back s, body-back, digits-at 4 (r .bytes) 0 all (s .four), digits-at 2 (r .bytes) 4 all four, ← drop-drop 2 4 (r .bytes), take-append-drop, take-append-drop)
 
     -- and every test of the writer holds
-    arguments-back : (within variables (pos (R.counts-read r .n)) && within rows (pos (R.counts-read r .m))) ≡ true
-    unfolding R.counts-read R.kind counts is-loop is-certificate in-range values variable-count row-count width held littleAt R.count-list R.arguments-fit
-    arguments-back = by-kind (kindOf (R.kind-number r)) refl (s .arguments) (s .counts-fit) known
-      where
-        by-kind : (k : Kind) → kindOf (R.kind-number r) ≡ k → R.arguments-fit r ≡ true → in-range (counts (R.kind r)) (R.count-list r) ≡ true → (is-loop (R.kind r) || is-certificate (R.kind r)) ≡ true → (within variables (pos (R.counts-read r .n)) && within rows (pos (R.counts-read r .m))) ≡ true
-        by-kind loop e a c w =
-            let n-fits = within variables (pos (littleAt 2 (r .bytes) 6)) in
-            let m-fits = within rows (pos (littleAt 2 (r .bytes) 8)) in
-            let both = both-true n-fits (m-fits && true) (rw (e, drop-drop) at c) in
-            rw e (true-both n-fits m-fits (both .0) (both-true m-fits true (both .1) .0))
-        by-kind ranking e a c w = rw e (rw e at a)
-        by-kind exclusion e a c w = rw e (rw e at a)
-        by-kind lasso e a c w = rw e (rw e at a)
-        by-kind other e a c w = absurd (false≢true (rw e at w))
-
     ms-back : ((not (is-lasso (R.kind r)) || leb 1 (length (R.list r))) ≡ true) × ((not (is-lasso (R.kind r)) || within rows (W.ms-given (back r room))) ≡ true)
     unfolding W.ms-given R.list R.list-start R.fields R.counts-read R.kind ahead listed counts is-loop is-lasso in-range values widths row-count width held R.count-list
     ms-back = by-kind (kindOf (R.kind-number r)) refl (s .counts-fit)
@@ -161,7 +163,7 @@ module _ (r : Reader) (room : ℕ) where
     passes-back fits = (
       known,
       (
-        arguments-back,
+        counts-in-range r s known,
         (
           ms-back .0,
           (

@@ -1,59 +1,23 @@
 -- `write-accepts`: for each kind, with n, m and ms within the limits, every part in its range and room enough, writing answers 0 and
 -- tells the bytes of 01's formula. The parts and their ranges are those of specs/Contents.antt.
-use mathlib.Core.Path.{_≡_, refl, ap}
-use Prim.Native.Nat.{ℕ, zero, suc, _+_, _*_, _≤_}
+use mathlib.Core.Path.{_≡_, refl}
+use Prim.Native.Nat.{ℕ, suc, _+_, _*_, _≤_}
 use mathlib.Core.Bool.{true, not, _||_}
-use mathlib.Core.List.{List, [], _∷_, _++_}
+use mathlib.Core.List.{List, [], _∷_}
 use native.Mathlib.Omega.{arith}
 use lib.Dec.{leb}
 use lib.IntN.{ℤ}
 use lib.ListN.{length, replicate}
-use lib.Signed.{leZ}
 use borrow.Author.Tests.{le-leb, eq-eqb}
 use Rattle.whole.specs.Rows.{Row}
 use Rattle.whole.specs.Sums.{Each}
-use Rattle.refusal.proofs.TestLaws.{passes-done, both-true, true-both}
-use Rattle.record.specs.Contents.{In, List-in, Counts-in, row-values, rows-values, Row-in, Rows-in, ranking-values, Ranking-in, exclusion-values, Exclusion-in, Lasso-parts, lasso-values, Lasso-in}
-use Rattle.record.specs.Fields.{Field, in-range}
+use Rattle.refusal.proofs.TestLaws.{passes-done, true-both}
+use Rattle.record.specs.Contents.{Counts-in, row-values, rows-values, Row-in, Rows-in, ranking-values, Ranking-in, exclusion-values, Exclusion-in, Lasso-parts, lasso-values, Lasso-in}
 use Rattle.record.specs.Layouts.{kindOf, is-loop, is-lasso, is-certificate, row-count, entry, right-side, multiplier, scale, direction, row, rowsOf, counts, layout, lengthOf, listed}
-use Rattle.record.specs.Ranges.{Range, rows, within}
+use Rattle.record.specs.Ranges.{rows, within}
 use Rattle.record.specs.Writers as W
 use Rattle.record.specs.Writers.{Writer, writing}
-use Rattle.record.proofs.FieldLaws.{is-true}
-
--- values that fit a row of fields: one for each, and each in its range
-pub record Fit (fs : List Field) (zs : List ℤ) : Type 0 where
-  pub counted : length zs ≡ length fs
-  pub ranged : in-range fs zs ≡ true
-
-pub in-within : {range : Range} {z : ℤ} → In range z → within range z ≡ true
-unfolding within
-in-within {range} {z} h = true-both _ _ (is-true (leZ (range .least) z) (h .least .le)) (is-true (leZ z (range .most)) (h .most .le))
-
-fit-none : Fit [] []
-unfolding in-range
-fit-none = record { counted = refl; ranged = refl }
-
-fit-cons : (f : Field) {fs : List Field} {z : ℤ} {zs : List ℤ} → In (f .range) z → Fit fs zs → Fit (f ∷ fs) (z ∷ zs)
-unfolding in-range
-fit-cons f h k = record { counted = ap suc (k .counted); ranged = true-both _ _ (in-within h) (k .ranged) }
-
-fit-append : (fs : List Field) {gs : List Field} (xs : List ℤ) {ys : List ℤ} → Fit fs xs → Fit gs ys → Fit (fs ++ gs) (xs ++ ys)
-unfolding in-range
-fit-append [] [] h k = k
-fit-append [] (x ∷ xs) h k = absurd (omega (arith, h .counted))
-fit-append (f ∷ fs) [] h k = absurd (omega (arith, h .counted))
-fit-append (f ∷ fs) (x ∷ xs) h k =
-    let parts = both-true (within (f .range) x) (in-range fs xs) (h .ranged) in
-    let rest = fit-append fs xs (record { counted = omega (arith, h .counted); ranged = parts .1 }) k in
-    record { counted = ap suc (rest .counted); ranged = true-both _ _ (parts .0) (rest .ranged) }
-
-fit-same : (f : Field) (n : ℕ) (zs : List ℤ) → List-in (f .range) n zs → Fit (replicate n f) zs
-unfolding Each
-fit-same f zero [] h = fit-none
-fit-same f zero (z ∷ zs) h = absurd (omega (arith, h .counted))
-fit-same f (suc n) [] h = absurd (omega (arith, h .counted))
-fit-same f (suc n) (z ∷ zs) h = fit-cons f (h .each .0) (fit-same f n zs (record { counted = omega (arith, h .counted); each = h .each .1 }))
+use Rattle.record.proofs.Fits.{Fit, in-within, fit-none, fit-cons, fit-append, fit-same}
 
 fit-row : (n : ℕ) (r : Row) → Row-in n r → Fit (row n) (row-values r)
 unfolding row row-values entry right-side

@@ -1,2 +1,5 @@
 pub mod SampleSheet
 pub mod StageLaws
+pub mod Parts
+pub mod Accepted
+pub mod Demands

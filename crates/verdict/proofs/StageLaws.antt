@@ -1,14 +1,20 @@
 -- Laws of orders of stages: all is agreed exactly when every stage is done.
-use mathlib.Core.Path.{_≡_, refl, sym, _∙_}
+use mathlib.Core.Path.{_≡_, refl, sym, ap, _∙_}
 use Prim.Native.Nat.{ℕ, suc}
 use mathlib.Core.Bool.{Bool, true, false}
 use mathlib.Core.List.{List, [], _∷_}
 use native.Mathlib.Omega.{arith}
 use lib.IntN.{ℤ}
 use Rattle.record.specs.Ranges.{state-entries, within}
-use Rattle.refusal.specs.Tests.{Told, done, refused}
+use Rattle.refusal.specs.Tests.{Told, done, refused, number}
+use Rattle.refusal.proofs.TestLaws.{never}
 use Rattle.verdict.specs.Bounding.{before-outside}
 use Rattle.verdict.specs.Stages.{Said, agreed, refusal, Stage, _says_, said}
+
+-- done or refused
+pub by-told : {X : Type 0} (t : Told) → (t ≡ done → X) → ((k p : ℕ) → t ≡ refused k p → X) → X
+by-told done f g = f refl
+by-told (refused k p) f g = g k p refl
 
 module _ {I : Type 0} where
   -- every stage is done
@@ -44,10 +50,6 @@ module _ {I : Type 0} where
       by-told (told i) (λ e. (e, said-agrees stages i (sym (stage-done about told stages i e) ∙ h)))
       (λ k p e. absurd (no-refusal (sym (stage-refused about told stages i k p e) ∙ h)))
     where
-      by-told : {X : Type 0} (t : Told) → (t ≡ done → X) → ((k p : ℕ) → t ≡ refused k p → X) → X
-      by-told done f g = f refl
-      by-told (refused k p) f g = g k p refl
-
       no-refusal : {a k p : ℕ} → refusal a k p ≡ agreed → ⊥
       no-refusal e = let z : _≡_ {A = ℕ} 0 1 = cc in omega arith
 
@@ -59,3 +61,26 @@ before-inside x xs h = step (within state-entries x) h
     step : (b : Bool) → b ≡ true → elim b [ true ↦ suc (before-outside xs) | false ↦ 0 ] ≡ suc (before-outside xs)
     step true e = refl
     step false e = cc
+
+-- ---- 0 is told only when all is agreed
+
+-- the number of what is said
+abbrev pub number-said : Said → ℕ
+number-said agreed = 0
+number-said (refusal about number place) = number
+
+module _ {I : Type 0} where
+  -- each stage tells 0 only when it is done
+  abbrev pub Named : List (Stage I) → I → Type 0
+  Named [] i = Unit {0}
+  Named ((about says told) ∷ stages) i = (number (told i) ≡ 0 → told i ≡ done) × Named stages i
+
+  pub zero-agreed : (stages : List (Stage I)) (i : I) → Named stages i → number-said (said stages i) ≡ 0 → said stages i ≡ agreed
+  unfolding said number
+  zero-agreed [] i named h = refl
+  zero-agreed ((about says told) ∷ stages) i named h =
+      by-told (told i)
+      (λ e. stage-done about told stages i e ∙ zero-agreed stages i (named .1) (ap number-said (sym (stage-done about told stages i e)) ∙ h))
+      (λ k p e.
+      let zero-told : k ≡ 0 = ap number-said (sym (stage-refused about told stages i k p e)) ∙ h in
+      absurd (never (sym e ∙ named .0 (ap number e ∙ zero-told))))

@@ -4,6 +4,7 @@ use Prim.Native.Nat.{ℕ, zero, suc, _+_, _*_}
 use mathlib.Core.List.{List, [], _∷_}
 use lib.IntN.{ℤ, pos, natAbs}
 use lib.ListN.{take, drop, getD}
+use Rattle.record.specs.Contents.{Lasso-parts}
 use Rattle.record.specs.Readers.{Reader, counts-read, list}
 use Rattle.theory.specs.Exclusions.{Exclusion}
 use Rattle.theory.specs.Lassos.{Lasso}
@@ -64,3 +65,19 @@ exclusion-in r = exclusion-from (counts-read r .n) (list r)
 
 unfoldable pub lasso-in : Reader → Lasso
 lasso-in r = lasso-from (counts-read r .n) (counts-read r .m) (counts-read r .ms) (list r)
+
+-- a lasso's parts as crate `record` names them
+unfoldable pub parts : Lasso → Lasso-parts
+parts c =
+    record {
+      stem = c .stem;
+      s = c .s;
+      s0 = c .s0;
+      k = pos (c .k);
+      T = c .T;
+      k2 = pos (c .k2);
+      H = c .H;
+      h0 = pos (c .h0);
+      Y = c .ranking .Y;
+      Z = c .ranking .Z;
+    }

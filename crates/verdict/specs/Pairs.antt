@@ -1,15 +1,15 @@
 -- The two records that a judge gets: when each is sound, the conditions of the certificate's kind over the loop that the bytes hold,
 -- and what the certificate then shows.
 use Prim.Native.Nat.{ℕ}
-use mathlib.Core.Bool.{Bool, true, false}
+use mathlib.Core.Bool.{Bool, true, false, cond}
 use mathlib.Core.List.{List}
 use lib.IntN.{ℤ}
-use Rattle.record.specs.Layouts.{Kind, loop, ranking, exclusion, lasso, other, is-loop}
+use Rattle.record.specs.Layouts.{Kind, loop, ranking, exclusion, lasso, other, is-loop, is-lasso}
 use Rattle.record.specs.Readers.{Reader, kind, counts-read}
-use Rattle.refusal.specs.Tests.{Told, done, refused, first}
-use Rattle.theory.specs.Conditions.{Proposal, rankingTests, exclusionTests, lassoTests, ranked}
-use Rattle.theory.specs.Exclusions as Exclusions
-use Rattle.theory.specs.Lassos as Lassos
+use Rattle.refusal.specs.Tests.{Told, done, refused}
+use Rattle.theory.specs.Conditions.{rankingTold, exclusionTold, lassoTold}
+use Rattle.theory.specs.Lassos.{longer}
+use Rattle.theory.specs.Loops.{Loop}
 use Rattle.theory.specs.Rankings as Rankings
 use Rattle.theory.specs.Rankings.{rank, start, fall}
 use Rattle.verdict.specs.Contents.{loop-in, ranking-in, exclusion-in, lasso-in}
@@ -38,9 +38,6 @@ kind-of p = kind (p .certificate-is)
 unfoldable pub variables-of : Pair → ℕ
 variables-of p = counts-read (p .loop-is) .n
 
-unfoldable pub rows-of : Pair → ℕ
-rows-of p = counts-read (p .loop-is) .m
-
 -- ---- the conditions
 
 -- "8, a condition fails, place 0": what a condition's own number and place become
@@ -48,20 +45,11 @@ unfoldable pub folded : Told → Told
 folded done = done
 folded (refused number place) = refused 8 0
 
-unfoldable pub ranking-proposal : Pair → Proposal Rankings.Ranking
-ranking-proposal p = record { loop = loop-in (p .loop-is); values = ranking-in (p .certificate-is) }
-
-unfoldable pub exclusion-proposal : Pair → Proposal Exclusions.Exclusion
-exclusion-proposal p = record { loop = loop-in (p .loop-is); values = exclusion-in (p .certificate-is) }
-
-unfoldable pub lasso-proposal : Pair → Proposal Lassos.Lasso
-lasso-proposal p = record { loop = loop-in (p .loop-is); values = lasso-in (p .certificate-is) }
-
 unfoldable pub conditions-told : Kind → Pair → Told
 conditions-told loop p = done
-conditions-told ranking p = first (rankingTests (variables-of p)) (ranking-proposal p)
-conditions-told exclusion p = first (exclusionTests (rows-of p)) (exclusion-proposal p)
-conditions-told lasso p = first (lassoTests (variables-of p)) (lasso-proposal p)
+conditions-told ranking p = rankingTold (loop-in (p .loop-is)) (ranking-in (p .certificate-is))
+conditions-told exclusion p = exclusionTold (loop-in (p .loop-is)) (exclusion-in (p .certificate-is))
+conditions-told lasso p = lassoTold (loop-in (p .loop-is)) (lasso-in (p .certificate-is))
 conditions-told other p = done
 
 unfoldable pub conditions : Pair → Told
@@ -69,22 +57,21 @@ conditions p = folded (conditions-told (kind-of p) p)
 
 -- ---- what is shown
 
--- the ranking of kind 2, or the one within kind 4 over the loop with its added row
-unfoldable pub ranked-by : Kind → Pair → Proposal Rankings.Ranking
-ranked-by loop p = ranking-proposal p
-ranked-by ranking p = ranking-proposal p
-ranked-by exclusion p = ranking-proposal p
-ranked-by lasso p = ranked (lasso-proposal p)
-ranked-by other p = ranking-proposal p
+-- the loop and the ranking of it: kind 2's, or within kind 4 the loop with the added row
+unfoldable pub ranked-loop : Pair → Loop
+ranked-loop p = cond (is-lasso (kind-of p)) (longer (loop-in (p .loop-is)) (lasso-in (p .certificate-is))) (loop-in (p .loop-is))
+
+unfoldable pub ranking-of : Pair → Rankings.Ranking
+ranking-of p = cond (is-lasso (kind-of p)) (lasso-in (p .certificate-is) .ranking) (ranking-in (p .certificate-is))
 
 unfoldable pub rank-of : Pair → List ℤ
-rank-of p = rank (ranked-by (kind-of p) p .loop) (ranked-by (kind-of p) p .values)
+rank-of p = rank (ranked-loop p) (ranking-of p)
 
 unfoldable pub start-of : Pair → ℤ
-start-of p = start (ranked-by (kind-of p) p .loop) (ranked-by (kind-of p) p .values)
+start-of p = start (ranked-loop p) (ranking-of p)
 
 unfoldable pub fall-of : Pair → ℤ
-fall-of p = fall (ranked-by (kind-of p) p .loop) (ranked-by (kind-of p) p .values)
+fall-of p = fall (ranked-loop p) (ranking-of p)
 
 unfoldable pub outcome-of : Kind → Pair → Outcome
 outcome-of loop p = Nothing

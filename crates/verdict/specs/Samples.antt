@@ -1,6 +1,6 @@
 -- 01, "Sample sheet": the records of S1 to S14, as bytes. Those of P, S1, S7 and S10 are written out by hand in crate `record`.
 use Prim.Native.Nat.{ℕ}
-use mathlib.Core.List.{List, [], _∷_, _++_}
+use mathlib.Core.List.{List, [], _∷_}
 use lib.IntN.{ℤ, pos, negℤ}
 use lib.ListN.{length}
 use Rattle.record.specs.Contents.{rows-values, ranking-values, exclusion-values}

@@ -1,0 +1,177 @@
+-- `accepted-exactly-when`, for each kind: judging accepts if and only if both records are sound, the rank list has room (kinds 2 and 4), and the published
+-- conditions hold of the rows and values that the bytes hold. And what an accepted judging and an accepted bound call then answer.
+use mathlib.Core.Path.{_≡_, refl, sym, ap, _∙_}
+use mathlib.Core.Logic.{_↔_}
+use Prim.Native.Nat.{_≤_}
+use mathlib.Core.Bool.{true, false}
+use mathlib.Core.List.{List, _++_}
+use native.Mathlib.Omega.{arith}
+use lib.IntN.{ℤ}
+use lib.ListN.{drop}
+use borrow.Author.Tests.{leb-true, le-leb}
+use Rattle.record.specs.Layouts.{ranking, exclusion, lasso, is-lasso}
+use Rattle.record.specs.Readers.{sound}
+use Rattle.refusal.specs.Tests.{Told, done, refused, number, first}
+use Rattle.refusal.proofs.TestLaws.{passes-done, done-passes, zero-done}
+use Rattle.theory.specs.Exclusions as Exclusions
+use Rattle.theory.specs.Lassos as Lassos
+use Rattle.theory.specs.Rankings as Rankings
+use Rattle.theory.proofs.Decisions.{ranking-decided, exclusion-decided, lasso-decided}
+use Rattle.whole.proofs.Tables.{length-tabulate}
+use Rattle.verdict.specs.Contents.{loop-in, ranking-in, exclusion-in, lasso-in}
+use Rattle.verdict.specs.Judging.{Judging, rank-room, judging, judges, ranks, rank-after}
+use Rattle.verdict.specs.Outcomes.{grade-of}
+use Rattle.verdict.specs.Pairs.{Pair, kind-of, variables-of, folded, conditions-told, conditions, ranked-loop, ranking-of, rank-of, start-of, fall-of, outcome-of, has-rank}
+use Rattle.verdict.specs.declared.Verdict.{Verdict}
+use Rattle.verdict.specs.declared.Outcome.{Outcome}
+use Rattle.verdict.specs.declared.Outcome.the-variants.{Ranking, Exclusion, Lasso}
+use Rattle.verdict.specs.Stages.{Said, agreed, refusal, said, verdict-of}
+use Rattle.verdict.proofs.StageLaws.{Agrees, agrees-said, said-agrees, number-said, Named, zero-agreed}
+
+-- both records of a pair are sound
+pub record Both-sound (p : Pair) : Type 0 where
+  pub loop-sound : first sound (p .loop-is) ≡ done
+  pub certificate-sound : first sound (p .certificate-is) ≡ done
+
+-- ---- conditions, folded
+
+folded-done : (t : Told) → folded t ≡ done → t ≡ done
+unfolding folded
+folded-done done h = refl
+folded-done (refused k p) h = cc
+
+done-folded : (t : Told) → t ≡ done → folded t ≡ done
+unfolding folded
+done-folded t h = rw h
+
+folded-named : (t : Told) → number (folded t) ≡ 0 → folded t ≡ done
+unfolding folded number
+folded-named done h = refl
+folded-named (refused k p) h = absurd (omega arith)
+
+-- the conditions of each kind, as the theory states them
+pub ranking-conditions : (p : Pair) → kind-of p ≡ ranking → (conditions p ≡ done) ↔ Rankings.RankingHolds (loop-in (p .loop-is)) (ranking-in (p .certificate-is))
+unfolding conditions conditions-told
+ranking-conditions p e =
+    let decided = ranking-decided (loop-in (p .loop-is)) (ranking-in (p .certificate-is)) in
+    (λ h. decided .0 (folded-done _ (rw e at h)), λ h. rw e (done-folded _ (decided .1 h)))
+
+pub exclusion-conditions : (p : Pair) → kind-of p ≡ exclusion → (conditions p ≡ done) ↔ Exclusions.ExclusionHolds (loop-in (p .loop-is)) (exclusion-in (p .certificate-is))
+unfolding conditions conditions-told
+exclusion-conditions p e =
+    let decided = exclusion-decided (loop-in (p .loop-is)) (exclusion-in (p .certificate-is)) in
+    (λ h. decided .0 (folded-done _ (rw e at h)), λ h. rw e (done-folded _ (decided .1 h)))
+
+pub lasso-conditions : (p : Pair) → kind-of p ≡ lasso → (conditions p ≡ done) ↔ Lassos.LassoHolds (loop-in (p .loop-is)) (lasso-in (p .certificate-is))
+unfolding conditions conditions-told
+lasso-conditions p e =
+    let decided = lasso-decided (loop-in (p .loop-is)) (lasso-in (p .certificate-is)) in
+    (λ h. decided .0 (folded-done _ (rw e at h)), λ h. rw e (done-folded _ (decided .1 h)))
+
+-- ---- judging
+
+judging-named : (j : Judging) → Named judging j
+unfolding judging sound rank-room conditions
+judging-named j = (zero-done sound (j .records .loop-is) refl, (zero-done sound (j .records .certificate-is) refl, (zero-done rank-room j refl, (folded-named _, tt))))
+
+-- 0 is told exactly when every stage is done
+pub accepts-agrees : (j : Judging) → (judges j .number ≡ 0) ↔ Agrees judging j
+unfolding judges verdict-of
+accepts-agrees j = (
+  λ h. said-agrees judging j (zero-agreed judging j (judging-named j) (number-is (said judging j) _ ∙ h)),
+  λ h. sym (number-is (said judging j) _) ∙ ap number-said (agrees-said judging j h),
+)
+  where
+    number-is : (s : Said) (o : Outcome) → number-said s ≡ verdict-of s o .number
+    number-is agreed o = refl
+    number-is (refusal a k p) o = refl
+
+-- room for the rank, which kinds 2 and 4 need
+room-there : (j : Judging) → has-rank (kind-of (j .records)) ≡ true → (first rank-room j ≡ done) ↔ (variables-of (j .records) ≤ j .room)
+unfolding rank-room
+room-there j e = (
+  λ h. leb-true _ _ (rw e at (done-passes rank-room j h .0)),
+  λ h. passes-done rank-room j (rw e (le-leb _ _ h), tt),
+)
+
+no-room-needed : (j : Judging) → has-rank (kind-of (j .records)) ≡ false → first rank-room j ≡ done
+unfolding rank-room
+no-room-needed j e = passes-done rank-room j (rw e, tt)
+
+-- what an accepted ranking, exclusion and lasso are
+pub record Ranking-accepted (j : Judging) : Type 0 where
+  pub both-sound : Both-sound (j .records)
+  pub room : variables-of (j .records) ≤ j .room
+  pub holds : Rankings.RankingHolds (loop-in (j .records .loop-is)) (ranking-in (j .records .certificate-is))
+
+pub record Exclusion-accepted (j : Judging) : Type 0 where
+  pub both-sound : Both-sound (j .records)
+  pub holds : Exclusions.ExclusionHolds (loop-in (j .records .loop-is)) (exclusion-in (j .records .certificate-is))
+
+pub record Lasso-accepted (j : Judging) : Type 0 where
+  pub both-sound : Both-sound (j .records)
+  pub room : variables-of (j .records) ≤ j .room
+  pub holds : Lassos.LassoHolds (loop-in (j .records .loop-is)) (lasso-in (j .records .certificate-is))
+
+pub accepted-exactly-when-ranking : (j : Judging) → kind-of (j .records) ≡ ranking → (judges j .number ≡ 0) ↔ Ranking-accepted j
+unfolding judging has-rank
+accepted-exactly-when-ranking j e =
+    let room = room-there j (rw e) in
+    let conditions-hold = ranking-conditions (j .records) e in (
+      λ h.
+          let a = accepts-agrees j .0 h in
+          record { both-sound = record { loop-sound = a .0; certificate-sound = a .1 .0 }; room = room .0 (a .1 .1 .0); holds = conditions-hold .0 (a .1 .1 .1 .0) },
+      λ h. accepts-agrees j .1 (h .both-sound .loop-sound, (h .both-sound .certificate-sound, (room .1 (h .room), (conditions-hold .1 (h .holds), tt)))),
+    )
+
+pub accepted-exactly-when-exclusion : (j : Judging) → kind-of (j .records) ≡ exclusion → (judges j .number ≡ 0) ↔ Exclusion-accepted j
+unfolding judging has-rank
+accepted-exactly-when-exclusion j e =
+    let conditions-hold = exclusion-conditions (j .records) e in (
+      λ h.
+          let a = accepts-agrees j .0 h in
+          record { both-sound = record { loop-sound = a .0; certificate-sound = a .1 .0 }; holds = conditions-hold .0 (a .1 .1 .1 .0) },
+      λ h. accepts-agrees j .1 (h .both-sound .loop-sound, (h .both-sound .certificate-sound, (no-room-needed j (rw e), (conditions-hold .1 (h .holds), tt)))),
+    )
+
+pub accepted-exactly-when-lasso : (j : Judging) → kind-of (j .records) ≡ lasso → (judges j .number ≡ 0) ↔ Lasso-accepted j
+unfolding judging has-rank
+accepted-exactly-when-lasso j e =
+    let room = room-there j (rw e) in
+    let conditions-hold = lasso-conditions (j .records) e in (
+      λ h.
+          let a = accepts-agrees j .0 h in
+          record { both-sound = record { loop-sound = a .0; certificate-sound = a .1 .0 }; room = room .0 (a .1 .1 .0); holds = conditions-hold .0 (a .1 .1 .1 .0) },
+      λ h. accepts-agrees j .1 (h .both-sound .loop-sound, (h .both-sound .certificate-sound, (room .1 (h .room), (conditions-hold .1 (h .holds), tt)))),
+    )
+
+-- ---- what an accepted judging answers: -Yb, -Zb, ZA' of the loop, of a lasso's over the loop with the added row; a grade
+
+-- a verdict that shows an outcome
+abbrev pub shows : Outcome → Verdict
+shows outcome = record { number = 0; place = 0; about = 0; outcome = outcome }
+
+accepted-said : (j : Judging) → judges j .number ≡ 0 → said judging j ≡ agreed
+accepted-said j h = agrees-said judging j (accepts-agrees j .0 h)
+
+-- the first n of the list are r, the rest stays
+pub record Answers-rank (j : Judging) (lent : List ℤ) (outcome : Outcome) (r : List ℤ) : Type 0 where
+  pub verdict-is : judges j ≡ shows outcome
+  pub list-is : rank-after j lent ≡ r ++ drop (variables-of (j .records)) lent
+
+pub ranking-answers : (j : Judging) (lent : List ℤ) → kind-of (j .records) ≡ ranking → judges j .number ≡ 0
+    → let l = loop-in (j .records .loop-is) in let c = ranking-in (j .records .certificate-is) in
+    Answers-rank j lent (Ranking (Rankings.start l c) (Rankings.fall l c)) (Rankings.rank l c)
+unfolding judges verdict-of rank-after ranks outcome-of has-rank rank-of start-of fall-of ranked-loop ranking-of is-lasso variables-of Rankings.rank loop-in
+ranking-answers j lent e h = record { verdict-is = rw (accepted-said j h, e, e); list-is = rw (accepted-said j h, e, length-tabulate) }
+
+pub lasso-answers : (j : Judging) (lent : List ℤ) → kind-of (j .records) ≡ lasso → judges j .number ≡ 0
+    → let l = loop-in (j .records .loop-is) in let c = lasso-in (j .records .certificate-is) in
+    Answers-rank j lent (Lasso (Rankings.start (Lassos.longer l c) (c .ranking)) (Rankings.fall (Lassos.longer l c) (c .ranking))) (Rankings.rank (Lassos.longer l c) (c .ranking))
+unfolding judges verdict-of rank-after ranks outcome-of has-rank rank-of start-of fall-of ranked-loop ranking-of is-lasso variables-of Rankings.rank loop-in
+lasso-answers j lent e h = record { verdict-is = rw (accepted-said j h, e, e); list-is = rw (accepted-said j h, e, length-tabulate) }
+
+pub exclusion-answers : (j : Judging) (lent : List ℤ) → kind-of (j .records) ≡ exclusion → judges j .number ≡ 0
+    → (judges j ≡ shows (Exclusion (grade-of (exclusion-in (j .records .certificate-is) .q)))) × (rank-after j lent ≡ lent)
+unfolding judges verdict-of rank-after ranks outcome-of has-rank
+exclusion-answers j lent e h = (rw (accepted-said j h, e), rw (accepted-said j h, e))

@@ -1,0 +1,145 @@
+-- Demand 3 about bytes: what follows, by the theory, when judging accepts a certificate's bytes for a loop's bytes. The loop is the one that its bytes
+-- hold (`loop-in`); runs and steps are those of the theory, over whole numbers of any size.
+use mathlib.Core.Path.{_≡_, refl, _∙_}
+use Prim.Native.Nat.{ℕ, _≤_}
+use mathlib.Core.Bool.{Bool, true, false}
+use mathlib.Core.List.{List, [], _∷_}
+use native.Mathlib.Omega.{arith}
+use lib.Dec.{eqb}
+use lib.IntN.{ℤ, pos}
+use borrow.Author.Tests.{eqb-true}
+use Rattle.whole.specs.Sums.{Each, NonNeg}
+use Rattle.whole.proofs.Solve.{v, le-fact}
+use Rattle.record.specs.Contents.{In}
+use Rattle.record.specs.Layouts.{ranking, exclusion, lasso, is-certificate}
+use Rattle.record.specs.Ranges.{_to_, multipliers, scales}
+use Rattle.record.specs.Readers.{Reader, kind, counts-read, sound}
+use Rattle.record.proofs.ReadThenWrite.{Sound, sound-says, certificate-no-loop, arguments-read}
+use Rattle.refusal.specs.Tests.{done, first}
+use Rattle.refusal.proofs.TestLaws.{done-passes}
+use Rattle.theory.specs.Exclusions as Exclusions
+use Rattle.theory.specs.Lassos as Lassos
+use Rattle.theory.specs.Loops.{Loop}
+use Rattle.theory.specs.Rankings as Rankings
+use Rattle.theory.proofs.ExclusionTheorems.{exclusion-excludes, not-both}
+use Rattle.theory.proofs.LassoTheorems.{lasso-bounds-runs}
+use Rattle.theory.proofs.RankingTheorems.{ranking-bounds-runs}
+use Rattle.verdict.specs.Contents.{loop-in, ranking-in, exclusion-in, lasso-in, parts}
+use Rattle.verdict.specs.Judging.{Judging, judges, judge-of}
+use Rattle.verdict.specs.Outcomes.{grade-of}
+use Rattle.verdict.specs.Pairs.{loop-record, certificate-record, kind-of}
+use Rattle.verdict.specs.declared.Grade.the-variants.{Whole, Fractions}
+use Rattle.verdict.proofs.Accepted.{accepted-exactly-when-ranking, accepted-exactly-when-exclusion, accepted-exactly-when-lasso}
+use Rattle.verdict.proofs.Parts.{ranking-parts, exclusion-parts, lasso-parts}
+
+-- ---- what the ranges give
+
+nonneg-all : (zs : List ℤ) → Each (In multipliers) zs → Each NonNeg zs
+unfolding Each multipliers _to_
+nonneg-all [] h = tt
+nonneg-all (z ∷ zs) h = (h .0 .least, nonneg-all zs (h .1))
+
+-- a scale is at least 1
+scale-positive : (k : ℕ) → In scales (pos k) → 1 ≤ k
+unfolding scales _to_
+scale-positive k h = omega (arith, le-fact (v (pos 1)) (v (pos k)) (h .least))
+
+-- ---- the records of a judge
+
+-- the certificate is one
+certificate-kind : (l c : List ℕ) → Sound (certificate-record is-certificate (loop-record l) c) → is-certificate (kind (certificate-record is-certificate (loop-record l) c)) ≡ true
+unfolding certificate-record
+certificate-kind l c s = s .wanted
+
+-- it goes by the loop's counts
+same-counts : (l c : List ℕ) → Sound (certificate-record is-certificate (loop-record l) c)
+    → (counts-read (certificate-record is-certificate (loop-record l) c) .n ≡ counts-read (loop-record l) .n)
+    × (counts-read (certificate-record is-certificate (loop-record l) c) .m ≡ counts-read (loop-record l) .m)
+unfolding certificate-record
+same-counts l c s = arguments-read (certificate-record is-certificate (loop-record l) c) (certificate-no-loop _ (s .wanted))
+
+says : (r : Reader) → first sound r ≡ done → Sound r
+says r h = sound-says r (done-passes sound r h)
+
+-- the grade is whole exactly at q = 1
+whole-grade : (q : ℕ) → grade-of q ≡ Whole → q ≡ 1
+unfolding grade-of
+whole-grade q h = by-test (eqb q 1) refl
+  where
+    other-grade : Fractions ≡ Whole → ⊥
+    other-grade e = let z : _≡_ {A = ℕ} 0 1 = cc in omega arith
+
+    by-test : (t : Bool) → eqb q 1 ≡ t → q ≡ 1
+    by-test true e = eqb-true q 1 e
+    by-test false e = absurd (other-grade (rw e at h))
+
+-- what the theory asks of an exclusion
+record Exclusion-facts (l : Loop) (d : Exclusions.Exclusion) : Type 0 where
+  size : Exclusions.OfSize l d
+  positive : 1 ≤ d .q
+  holds : Exclusions.ExclusionHolds l d
+
+-- ---- the three kinds
+
+module _ (l c : List ℕ) (lent : List ℤ) where
+  -- the judging, its loop, and its certificate record
+  abbrev j : Judging
+  j = judge-of l c lent
+
+  ranking-facts : kind-of (j .records) ≡ ranking → judges j .number ≡ 0
+      → Rankings.NonNegative (ranking-in (j .records .certificate-is)) × Rankings.RankingHolds (loop-in (j .records .loop-is)) (ranking-in (j .records .certificate-is))
+  unfolding kind-of
+  ranking-facts e h =
+      let a = accepted-exactly-when-ranking j e .0 h in
+      let p = ranking-parts (j .records .certificate-is) (says _ (a .both-sound .certificate-sound)) e in
+      ((nonneg-all _ (p .Y-in .each), nonneg-all _ (p .Z-in .each)), a .holds)
+
+  -- an accepted ranking: no run has more steps than the bound of its first state, and none is endless
+  pub ranking-ends : kind-of (j .records) ≡ ranking → judges j .number ≡ 0
+      → let loop-is = loop-in (j .records .loop-is) in let ranks = ranking-in (j .records .certificate-is) in
+      Rankings.Bounds loop-is (λ x. Unit {0}) (Rankings.rank loop-is ranks) (Rankings.start loop-is ranks) (Rankings.fall loop-is ranks)
+  ranking-ends e h = let f = ranking-facts e h in ranking-bounds-runs _ _ (f .0) (f .1)
+
+  exclusion-facts : kind-of (j .records) ≡ exclusion → judges j .number ≡ 0 → Exclusion-facts (loop-in (j .records .loop-is)) (exclusion-in (j .records .certificate-is))
+  unfolding kind-of judge-of loop-in
+  exclusion-facts e h =
+      let a = accepted-exactly-when-exclusion j e .0 h in
+      let s = says _ (a .both-sound .certificate-sound) in
+      let p = exclusion-parts (j .records .certificate-is) s e in
+      let n-same = same-counts l c s .0 in
+      record {
+        size = record { U-entries = p .U-in .counted ∙ n-same; V-entries = p .V-in .counted ∙ n-same; W-entries = p .W-in .counted ∙ n-same };
+        positive = scale-positive _ (p .q-in);
+        holds = a .holds;
+      }
+
+  -- an accepted exclusion: no linear ranking function over fractions, nor over whole numbers if its grade is whole
+  pub exclusion-rules-out : kind-of (j .records) ≡ exclusion → judges j .number ≡ 0
+      → ((r : List ℤ) (δ0 δ : ℤ) → Rankings.RanksFractions (loop-in (j .records .loop-is)) r δ0 δ → ⊥)
+      × (grade-of (exclusion-in (j .records .certificate-is) .q) ≡ Whole → (r : List ℤ) (δ0 δ : ℤ) → Rankings.RanksWhole (loop-in (j .records .loop-is)) r δ0 δ → ⊥)
+  exclusion-rules-out e h =
+      let f = exclusion-facts e h in
+      let out = exclusion-excludes _ _ (f .size) (f .positive) (f .holds) in
+      (out .0, λ whole. out .1 (whole-grade _ whole))
+
+  -- an accepted lasso: the same as a ranking from the x' of every stem step, which meets the invariant
+  pub lasso-ends : kind-of (j .records) ≡ lasso → judges j .number ≡ 0
+      → let loop-is = loop-in (j .records .loop-is) in let c = lasso-in (j .records .certificate-is) in
+      Lassos.LassoPromise loop-is c (Rankings.rank (Lassos.longer loop-is c) (c .ranking)) (Rankings.start (Lassos.longer loop-is c) (c .ranking)) (Rankings.fall (Lassos.longer loop-is c) (c .ranking))
+  unfolding kind-of parts
+  lasso-ends e h =
+      let a = accepted-exactly-when-lasso j e .0 h in
+      let p = lasso-parts (j .records .certificate-is) (says _ (a .both-sound .certificate-sound)) e in
+      lasso-bounds-runs _ _
+      (nonneg-all _ (p .T-in .each), nonneg-all _ (p .H-in .each), (nonneg-all _ (p .Y-in .each), nonneg-all _ (p .Z-in .each)))
+      (scale-positive _ (p .k-in)) (scale-positive _ (p .k2-in)) (a .holds)
+
+-- no loop's bytes have both a ranking and an exclusion accepted
+pub never-both : (l c d : List ℕ) (lent lent′ : List ℤ)
+    → kind-of (judge-of l c lent .records) ≡ ranking → judges (judge-of l c lent) .number ≡ 0
+    → kind-of (judge-of l d lent′ .records) ≡ exclusion → judges (judge-of l d lent′) .number ≡ 0 → ⊥
+unfolding judge-of
+never-both l c d lent lent′ e h e′ h′ =
+    let f = ranking-facts l c lent e h in
+    let g = exclusion-facts l d lent′ e′ h′ in
+    not-both _ _ _ (f .0) (f .1) (g .size) (g .positive) (g .holds)
