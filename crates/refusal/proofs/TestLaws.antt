@@ -2,12 +2,12 @@
 -- the front; `passes-done` and `done-passes` say that this is what "done" means. `stops` finds a refusal behind tests that pass.
 use mathlib.Core.Path.{_≡_, refl, sym, ap, _∙_}
 use Prim.Native.Nat.{ℕ}
-use mathlib.Core.Bool.{Bool, true, false, _&&_}
+use mathlib.Core.Bool.{Bool, true, false, not, _&&_}
 use mathlib.Core.List.{List, [], _∷_, _++_}
 use native.Mathlib.Omega.{arith}
-use lib.Dec.{ltb}
-use borrow.Author.Tests.{ltb-true}
-use Rattle.refusal.specs.Tests.{done, refused, Test, _at_unless_, first, number}
+use lib.Dec.{eqb}
+use borrow.Author.Tests.{eqb-false, not-true}
+use Rattle.refusal.specs.Tests.{Told, done, refused, Test, _at_unless_, first, number}
 
 -- a refusal is not done
 pub never : {k p : ℕ} → refused k p ≡ done → ⊥
@@ -83,17 +83,37 @@ module _ {I : Type 0} where
   append-passes [] us i h = (tt, h)
   append-passes ((n at p unless t) ∷ ts) us i h = let r = append-passes ts us i (h .1) in ((h .0, r .0), r .1)
 
-  -- no test of the list tells 0
-  abbrev pub named : List (Test I) → Bool
-  named [] = true
-  named ((k at p unless t) ∷ ts) = ltb 0 k && named ts
+  -- no test of the list tells the number
+  abbrev pub avoids : ℕ → List (Test I) → Bool
+  avoids number [] = true
+  avoids number ((k at p unless t) ∷ ts) = not (eqb k number) && avoids number ts
 
-  -- then 0 is told only when all is done
-  pub zero-done : (ts : List (Test I)) (i : I) → named ts ≡ true → number (first ts i) ≡ 0 → first ts i ≡ done
-  unfolding first number
-  zero-done [] i ok h = refl
-  zero-done ((k at p unless t) ∷ ts) i ok h =
-      let parts = both-true (ltb 0 k) (named ts) ok in
+  pub never-tells : (number : ℕ) (ts : List (Test I)) (i : I) (place : ℕ) → avoids number ts ≡ true → first ts i ≡ refused number place → ⊥
+  unfolding first
+  never-tells number [] i place ok h = never (sym h)
+  never-tells number ((k at p unless t) ∷ ts) i place ok h =
+      let parts = both-true (not (eqb k number)) (avoids number ts) ok in
       either (t i)
-      (λ e. passed k p t ts i e ∙ zero-done ts i (parts .1) (ap number (sym (passed k p t ts i e)) ∙ h))
-      (λ e. absurd (let z : k ≡ 0 = ap number (sym (failed k p t ts i e)) ∙ h in omega (arith, ltb-true 0 k (parts .0))))
+      (λ e. never-tells number ts i place (parts .1) (sym (passed k p t ts i e) ∙ h))
+      (λ e. eqb-false k number (not-true (eqb k number) (parts .0)) (same-number (sym (failed k p t ts i e) ∙ h)))
+    where
+      same-number : {a b x y : ℕ} → refused a x ≡ refused b y → a ≡ b
+      same-number e = cc
+
+  -- where no test tells 0, 0 is told only when all is done
+  pub zero-done : (ts : List (Test I)) (i : I) → avoids 0 ts ≡ true → number (first ts i) ≡ 0 → first ts i ≡ done
+  unfolding number
+  zero-done ts i ok h = by-told (first ts i) refl h
+    where
+      by-told : (t : Told) → first ts i ≡ t → number t ≡ 0 → t ≡ done
+      by-told done e z = refl
+      by-told (refused k p) e z = absurd (never-tells 0 ts i p ok (e ∙ ap (λ n. refused n p) z))
+
+  -- nor is another number told that no test has
+  pub number-avoided : (k : ℕ) (ts : List (Test I)) (i : I) → (0 ≡ k → ⊥) → avoids k ts ≡ true → number (first ts i) ≡ k → ⊥
+  unfolding number
+  number-avoided k ts i some ok h = by-told (first ts i) refl h
+    where
+      by-told : (t : Told) → first ts i ≡ t → number t ≡ k → ⊥
+      by-told done e z = some z
+      by-told (refused n p) e z = never-tells k ts i p ok (e ∙ ap (λ n. refused n p) z)

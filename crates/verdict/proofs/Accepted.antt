@@ -2,7 +2,7 @@
 -- conditions hold of the rows and values that the bytes hold. And what an accepted judging and an accepted bound call then answer.
 use mathlib.Core.Path.{_≡_, refl, sym, ap, _∙_}
 use mathlib.Core.Logic.{_↔_}
-use Prim.Native.Nat.{_≤_}
+use Prim.Native.Nat.{ℕ, _≤_}
 use mathlib.Core.Bool.{true, false}
 use mathlib.Core.List.{List, _++_}
 use native.Mathlib.Omega.{arith}
@@ -44,10 +44,16 @@ done-folded : (t : Told) → t ≡ done → folded t ≡ done
 unfolding folded
 done-folded t h = rw h
 
-folded-named : (t : Told) → number (folded t) ≡ 0 → folded t ≡ done
+pub folded-named : (t : Told) → number (folded t) ≡ 0 → folded t ≡ done
 unfolding folded number
 folded-named done h = refl
 folded-named (refused k p) h = absurd (omega arith)
+
+-- a folded condition tells 0 or 8
+pub folded-number : (k : ℕ) (t : Told) → (0 ≡ k → ⊥) → (8 ≡ k → ⊥) → number (folded t) ≡ k → ⊥
+unfolding folded number
+folded-number k done zero eight h = zero h
+folded-number k (refused n p) zero eight h = eight h
 
 -- the conditions of each kind, as the theory states them
 pub ranking-conditions : (p : Pair) → kind-of p ≡ ranking → (conditions p ≡ done) ↔ Rankings.RankingHolds (loop-in (p .loop-is)) (ranking-in (p .certificate-is))

@@ -1,25 +1,27 @@
 -- Demand 3 about bytes: what follows, by the theory, when judging accepts a certificate's bytes for a loop's bytes. The loop is the one that its bytes
 -- hold (`loop-in`); runs and steps are those of the theory, over whole numbers of any size.
-use mathlib.Core.Path.{_≡_, refl, _∙_}
+use mathlib.Core.Path.{_≡_, refl, sym, ap, _∙_}
 use Prim.Native.Nat.{ℕ, _≤_}
 use mathlib.Core.Bool.{Bool, true, false}
 use mathlib.Core.List.{List, [], _∷_}
 use native.Mathlib.Omega.{arith}
 use lib.Dec.{eqb}
 use lib.IntN.{ℤ, pos}
+use lib.ListN.{length}
 use borrow.Author.Tests.{eqb-true}
 use Rattle.whole.specs.Sums.{Each, NonNeg}
 use Rattle.whole.proofs.Solve.{v, le-fact}
 use Rattle.record.specs.Contents.{In}
 use Rattle.record.specs.Layouts.{ranking, exclusion, lasso, is-certificate}
 use Rattle.record.specs.Ranges.{_to_, multipliers, scales}
-use Rattle.record.specs.Readers.{Reader, kind, counts-read, sound}
+use Rattle.record.specs.Readers.{Reader, counts-read, sound}
 use Rattle.record.proofs.ReadThenWrite.{Sound, sound-says, certificate-no-loop, arguments-read}
-use Rattle.refusal.specs.Tests.{done, first}
-use Rattle.refusal.proofs.TestLaws.{done-passes}
+use Rattle.refusal.specs.Tests.{done, number, first}
+use Rattle.refusal.proofs.TestLaws.{done-passes, number-avoided}
+use Rattle.verdict.proofs.StageLaws.{silent-said}
 use Rattle.theory.specs.Exclusions as Exclusions
 use Rattle.theory.specs.Lassos as Lassos
-use Rattle.theory.specs.Loops.{Loop}
+use Rattle.theory.specs.Loops.{Loop, Run}
 use Rattle.theory.specs.Rankings as Rankings
 use Rattle.theory.proofs.ExclusionTheorems.{exclusion-excludes, not-both}
 use Rattle.theory.proofs.LassoTheorems.{lasso-bounds-runs}
@@ -27,9 +29,11 @@ use Rattle.theory.proofs.RankingTheorems.{ranking-bounds-runs}
 use Rattle.verdict.specs.Contents.{loop-in, ranking-in, exclusion-in, lasso-in, parts}
 use Rattle.verdict.specs.Judging.{Judging, judges, judge-of}
 use Rattle.verdict.specs.Outcomes.{grade-of}
-use Rattle.verdict.specs.Pairs.{loop-record, certificate-record, kind-of}
+use Rattle.verdict.specs.Pairs.{Pair, loop-record, certificate-record, kind-of, conditions}
 use Rattle.verdict.specs.declared.Grade.the-variants.{Whole, Fractions}
-use Rattle.verdict.proofs.Accepted.{accepted-exactly-when-ranking, accepted-exactly-when-exclusion, accepted-exactly-when-lasso}
+use Rattle.verdict.specs.Bounding.{Bounding, state-tests, bounding, bounds, bound-of}
+use Rattle.verdict.proofs.BoundAnswers.{number-bounded, invariant-holds, bounded-exactly-when-ranking, bounded-exactly-when-lasso, ranking-bound-is, lasso-bound-is}
+use Rattle.verdict.proofs.Accepted.{folded-number, lasso-conditions, accepted-exactly-when-ranking, accepted-exactly-when-exclusion, accepted-exactly-when-lasso}
 use Rattle.verdict.proofs.Parts.{ranking-parts, exclusion-parts, lasso-parts}
 
 -- ---- what the ranges give
@@ -46,12 +50,7 @@ scale-positive k h = omega (arith, le-fact (v (pos 1)) (v (pos k)) (h .least))
 
 -- ---- the records of a judge
 
--- the certificate is one
-certificate-kind : (l c : List ℕ) → Sound (certificate-record is-certificate (loop-record l) c) → is-certificate (kind (certificate-record is-certificate (loop-record l) c)) ≡ true
-unfolding certificate-record
-certificate-kind l c s = s .wanted
-
--- it goes by the loop's counts
+-- a certificate goes by the loop's counts
 same-counts : (l c : List ℕ) → Sound (certificate-record is-certificate (loop-record l) c)
     → (counts-read (certificate-record is-certificate (loop-record l) c) .n ≡ counts-read (loop-record l) .n)
     × (counts-read (certificate-record is-certificate (loop-record l) c) .m ≡ counts-read (loop-record l) .m)
@@ -79,26 +78,48 @@ record Exclusion-facts (l : Loop) (d : Exclusions.Exclusion) : Type 0 where
   positive : 1 ≤ d .q
   holds : Exclusions.ExclusionHolds l d
 
--- ---- the three kinds
+-- ---- of any sound certificate
+
+module _ (p : Pair) (certificate-sound : first sound (p .certificate-is) ≡ done) where
+  -- multipliers are not below 0
+  pub ranking-nonneg : kind-of p ≡ ranking → Rankings.NonNegative (ranking-in (p .certificate-is))
+  unfolding kind-of
+  ranking-nonneg e =
+      let parts-in = ranking-parts (p .certificate-is) (says _ certificate-sound) e in
+      (nonneg-all _ (parts-in .Y-in .each), nonneg-all _ (parts-in .Z-in .each))
+
+  -- a lasso that meets its conditions keeps its promise
+  pub lasso-promise : kind-of p ≡ lasso → Lassos.LassoHolds (loop-in (p .loop-is)) (lasso-in (p .certificate-is))
+      → let l = loop-in (p .loop-is) in let c = lasso-in (p .certificate-is) in
+      Lassos.LassoPromise l c (Rankings.rank (Lassos.longer l c) (c .ranking)) (Rankings.start (Lassos.longer l c) (c .ranking)) (Rankings.fall (Lassos.longer l c) (c .ranking))
+  unfolding kind-of parts
+  lasso-promise e holds =
+      let p-in = lasso-parts (p .certificate-is) (says _ certificate-sound) e in
+      lasso-bounds-runs _ _
+      (nonneg-all _ (p-in .T-in .each), nonneg-all _ (p-in .H-in .each), (nonneg-all _ (p-in .Y-in .each), nonneg-all _ (p-in .Z-in .each)))
+      (scale-positive _ (p-in .k-in)) (scale-positive _ (p-in .k2-in)) holds
+
+-- ---- accepted by judging
 
 module _ (l c : List ℕ) (lent : List ℤ) where
-  -- the judging, its loop, and its certificate record
   abbrev j : Judging
   j = judge-of l c lent
-
-  ranking-facts : kind-of (j .records) ≡ ranking → judges j .number ≡ 0
-      → Rankings.NonNegative (ranking-in (j .records .certificate-is)) × Rankings.RankingHolds (loop-in (j .records .loop-is)) (ranking-in (j .records .certificate-is))
-  unfolding kind-of
-  ranking-facts e h =
-      let a = accepted-exactly-when-ranking j e .0 h in
-      let p = ranking-parts (j .records .certificate-is) (says _ (a .both-sound .certificate-sound)) e in
-      ((nonneg-all _ (p .Y-in .each), nonneg-all _ (p .Z-in .each)), a .holds)
 
   -- an accepted ranking: no run has more steps than the bound of its first state, and none is endless
   pub ranking-ends : kind-of (j .records) ≡ ranking → judges j .number ≡ 0
       → let loop-is = loop-in (j .records .loop-is) in let ranks = ranking-in (j .records .certificate-is) in
       Rankings.Bounds loop-is (λ x. Unit {0}) (Rankings.rank loop-is ranks) (Rankings.start loop-is ranks) (Rankings.fall loop-is ranks)
-  ranking-ends e h = let f = ranking-facts e h in ranking-bounds-runs _ _ (f .0) (f .1)
+  ranking-ends e h =
+      let a = accepted-exactly-when-ranking j e .0 h in
+      ranking-bounds-runs _ _ (ranking-nonneg (j .records) (a .both-sound .certificate-sound) e) (a .holds)
+
+  -- an accepted lasso: the same from the x' of every stem step, which meets the invariant
+  pub lasso-ends : kind-of (j .records) ≡ lasso → judges j .number ≡ 0
+      → let loop-is = loop-in (j .records .loop-is) in let c = lasso-in (j .records .certificate-is) in
+      Lassos.LassoPromise loop-is c (Rankings.rank (Lassos.longer loop-is c) (c .ranking)) (Rankings.start (Lassos.longer loop-is c) (c .ranking)) (Rankings.fall (Lassos.longer loop-is c) (c .ranking))
+  lasso-ends e h =
+      let a = accepted-exactly-when-lasso j e .0 h in
+      lasso-promise (j .records) (a .both-sound .certificate-sound) e (a .holds)
 
   exclusion-facts : kind-of (j .records) ≡ exclusion → judges j .number ≡ 0 → Exclusion-facts (loop-in (j .records .loop-is)) (exclusion-in (j .records .certificate-is))
   unfolding kind-of judge-of loop-in
@@ -122,24 +143,60 @@ module _ (l c : List ℕ) (lent : List ℤ) where
       let out = exclusion-excludes _ _ (f .size) (f .positive) (f .holds) in
       (out .0, λ whole. out .1 (whole-grade _ whole))
 
-  -- an accepted lasso: the same as a ranking from the x' of every stem step, which meets the invariant
-  pub lasso-ends : kind-of (j .records) ≡ lasso → judges j .number ≡ 0
-      → let loop-is = loop-in (j .records .loop-is) in let c = lasso-in (j .records .certificate-is) in
-      Lassos.LassoPromise loop-is c (Rankings.rank (Lassos.longer loop-is c) (c .ranking)) (Rankings.start (Lassos.longer loop-is c) (c .ranking)) (Rankings.fall (Lassos.longer loop-is c) (c .ranking))
-  unfolding kind-of parts
-  lasso-ends e h =
-      let a = accepted-exactly-when-lasso j e .0 h in
-      let p = lasso-parts (j .records .certificate-is) (says _ (a .both-sound .certificate-sound)) e in
-      lasso-bounds-runs _ _
-      (nonneg-all _ (p .T-in .each), nonneg-all _ (p .H-in .each), (nonneg-all _ (p .Y-in .each), nonneg-all _ (p .Z-in .each)))
-      (scale-positive _ (p .k-in)) (scale-positive _ (p .k2-in)) (a .holds)
-
 -- no loop's bytes have both a ranking and an exclusion accepted
 pub never-both : (l c d : List ℕ) (lent lent′ : List ℤ)
     → kind-of (judge-of l c lent .records) ≡ ranking → judges (judge-of l c lent) .number ≡ 0
     → kind-of (judge-of l d lent′ .records) ≡ exclusion → judges (judge-of l d lent′) .number ≡ 0 → ⊥
 unfolding judge-of
 never-both l c d lent lent′ e h e′ h′ =
-    let f = ranking-facts l c lent e h in
+    let a = accepted-exactly-when-ranking (judge-of l c lent) e .0 h in
     let g = exclusion-facts l d lent′ e′ h′ in
-    not-both _ _ _ (f .0) (f .1) (g .size) (g .positive) (g .holds)
+    not-both _ _ _ (ranking-nonneg (judge-of l c lent .records) (a .both-sound .certificate-sound) e) (a .holds) (g .size) (g .positive) (g .holds)
+
+-- ---- accepted by the bound call
+
+module _ (l c : List ℕ) (state : List ℤ) where
+  abbrev b : Bounding
+  b = bound-of l c state
+
+  -- no run from the state has more steps than the bound that is told
+  pub ranking-bound-kept : kind-of (b .records) ≡ ranking → bounds b .verdict .number ≡ 0
+      → (ys : List (List ℤ)) → Run (loop-in (b .records .loop-is)) state ys → length ys ≤ bounds b .bound
+  unfolding ranking-in bound-of
+  ranking-bound-kept e h ys run =
+      let a = bounded-exactly-when-ranking b e .0 h in
+      rw (ranking-bound-is b e h) (ranking-bounds-runs _ _ (ranking-nonneg (b .records) (a .both-sound .certificate-sound) e) (a .holds) .steps state ys tt run)
+
+  -- of a lasso, from a state that meets the invariant, as the bound call tests
+  pub lasso-bound-kept : kind-of (b .records) ≡ lasso → bounds b .verdict .number ≡ 0
+      → (ys : List (List ℤ)) → Run (loop-in (b .records .loop-is)) state ys → length ys ≤ bounds b .bound
+  unfolding bound-of
+  lasso-bound-kept e h ys run =
+      let a = bounded-exactly-when-lasso b e .0 h in
+      rw (lasso-bound-is b e h) (lasso-promise (b .records) (a .both-sound .certificate-sound) e (a .holds) .from-invariant .steps state ys (a .starts) run)
+
+  -- the x' of a stem step is never refused with 11
+  pub after-stem-never-11 : kind-of (b .records) ≡ lasso → Lassos.AfterStem (loop-in (b .records .loop-is)) (lasso-in (b .records .certificate-is)) state
+      → bounds b .verdict .number ≡ 11 → ⊥
+  unfolding bounding sound state-tests conditions bound-of number
+  after-stem-never-11 e after h =
+      silent-said 11 bounding b (λ z. omega arith) (
+        number-avoided 11 sound (b .records .loop-is) (λ z. omega arith) refl,
+        λ loop-sound. (
+          number-avoided 11 sound (b .records .certificate-is) (λ z. omega arith) refl,
+          λ certificate-sound. (
+            number-avoided 11 state-tests b (λ z. omega arith) refl,
+            λ state-done. (
+              folded-number 11 _ (λ z. omega arith) (λ z. omega arith),
+              λ conditions-done. (
+                λ told-11.
+                    let holds = lasso-conditions (b .records) e .0 conditions-done in
+                    let meets = lasso-promise (b .records) certificate-sound e holds .started state after in
+                    absurd (let z : 0 ≡ 11 = sym (ap number (invariant-holds b e .1 meets)) ∙ told-11 in omega arith),
+                λ told-done. tt,
+              ),
+            ),
+          ),
+        ),
+      )
+      (number-bounded b ∙ h)

@@ -3,3 +3,4 @@ pub mod StageLaws
 pub mod Parts
 pub mod Accepted
 pub mod Demands
+pub mod BoundAnswers

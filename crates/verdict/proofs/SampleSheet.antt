@@ -15,20 +15,18 @@ use Rattle.verdict.specs.Judging.{judges, rank-after, judge-of}
 use Rattle.verdict.specs.Samples.{−, loop-bytes, ranking-bytes, exclusion-bytes, P, ends-without-rank, halves, with-stem, no-rows, no-steps, by-two, S1, S2, S3, S7, S8, S9, S10, S11, S12-ranking, S12-exclusion, S13, S14, second-of-P}
 use Rattle.verdict.specs.declared.Bounded.{Bounded}
 use Rattle.verdict.specs.declared.Grade.the-variants.{Whole, Fractions}
-use Rattle.verdict.specs.declared.Outcome.{Outcome}
 use Rattle.verdict.specs.declared.Outcome.the-variants.{Nothing, Ranking, Exclusion, Lasso}
 use Rattle.verdict.specs.declared.Verdict.{Verdict}
 use Rattle.record.specs.Contents.{rows-values, row-values, ranking-values, exclusion-values}
 use Rattle.record.specs.Samples as Records
 use Rattle.refusal.proofs.TestLaws.{passes-done}
 use Rattle.verdict.specs.Stages.{agreed, said}
-use Rattle.verdict.proofs.StageLaws.{agrees-said, before-inside}
+use Rattle.verdict.proofs.Accepted.{shows}
+use Rattle.verdict.proofs.BoundAnswers.{before-inside}
+use Rattle.verdict.proofs.StageLaws.{agrees-said}
 use borrow.Author.Tests.{eq-eqb}
 
--- verdicts, as 01 prints them
-abbrev pub shows : Outcome → Verdict
-shows outcome = record { number = 0; place = 0; about = 0; outcome = outcome }
-
+-- a failed condition or invariant, as 01 tells it
 abbrev pub fails : ℕ → Verdict
 fails number = record { number = number; place = 0; about = 2; outcome = Nothing }
 

@@ -1,14 +1,10 @@
 -- Laws of orders of stages: all is agreed exactly when every stage is done.
 use mathlib.Core.Path.{_≡_, refl, sym, ap, _∙_}
-use Prim.Native.Nat.{ℕ, suc}
-use mathlib.Core.Bool.{Bool, true, false}
+use Prim.Native.Nat.{ℕ}
 use mathlib.Core.List.{List, [], _∷_}
 use native.Mathlib.Omega.{arith}
-use lib.IntN.{ℤ}
-use Rattle.record.specs.Ranges.{state-entries, within}
 use Rattle.refusal.specs.Tests.{Told, done, refused, number}
 use Rattle.refusal.proofs.TestLaws.{never}
-use Rattle.verdict.specs.Bounding.{before-outside}
 use Rattle.verdict.specs.Stages.{Said, agreed, refusal, Stage, _says_, said}
 
 -- done or refused
@@ -53,15 +49,6 @@ module _ {I : Type 0} where
       no-refusal : {a k p : ℕ} → refusal a k p ≡ agreed → ⊥
       no-refusal e = let z : _≡_ {A = ℕ} 0 1 = cc in omega arith
 
--- an entry in range is passed over
-pub before-inside : (x : ℤ) (xs : List ℤ) → within state-entries x ≡ true → before-outside (x ∷ xs) ≡ suc (before-outside xs)
-unfolding before-outside
-before-inside x xs h = step (within state-entries x) h
-  where
-    step : (b : Bool) → b ≡ true → elim b [ true ↦ suc (before-outside xs) | false ↦ 0 ] ≡ suc (before-outside xs)
-    step true e = refl
-    step false e = cc
-
 -- ---- 0 is told only when all is agreed
 
 -- the number of what is said
@@ -84,3 +71,16 @@ module _ {I : Type 0} where
       (λ k p e.
       let zero-told : k ≡ 0 = ap number-said (sym (stage-refused about told stages i k p e)) ∙ h in
       absurd (never (sym e ∙ named .0 (ap number e ∙ zero-told))))
+
+  -- no stage that is reached tells the number k
+  abbrev pub Silent : ℕ → List (Stage I) → I → Type 0
+  Silent k [] i = Unit {0}
+  Silent k ((about says told) ∷ stages) i = (number (told i) ≡ k → ⊥) × (told i ≡ done → Silent k stages i)
+
+  pub silent-said : (k : ℕ) (stages : List (Stage I)) (i : I) → (0 ≡ k → ⊥) → Silent k stages i → number-said (said stages i) ≡ k → ⊥
+  unfolding said number
+  silent-said k [] i some silent h = some h
+  silent-said k ((about says told) ∷ stages) i some silent h =
+      by-told (told i)
+      (λ e. silent-said k stages i some (silent .1 e) (ap number-said (sym (stage-done about told stages i e)) ∙ h))
+      (λ n p e. silent .0 (ap number e ∙ ap number-said (sym (stage-refused about told stages i n p e)) ∙ h))

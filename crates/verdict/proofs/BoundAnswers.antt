@@ -1,0 +1,213 @@
+-- When the bound call accepts, and what it then answers and promises: the bound is 01's formula, and no run from that state has more steps.
+use mathlib.Core.Path.{_≡_, refl, sym, ap, _∙_}
+use mathlib.Core.Logic.{_↔_}
+use Prim.Native.Nat.{ℕ, suc}
+use mathlib.Core.Bool.{Bool, true, false}
+use mathlib.Core.List.{List, [], _∷_}
+use native.Mathlib.Nat.{suc-inj}
+use native.Mathlib.Omega.{arith}
+use lib.IntN.{ℤ}
+use lib.ListN.{length}
+use borrow.Author.Tests.{eqb-true, eq-eqb}
+use Rattle.whole.specs.Sums.{Each}
+use Rattle.whole.proofs.Compare.{true-le, le-true}
+use Rattle.record.specs.Contents.{In}
+use Rattle.record.specs.Layouts.{ranking, lasso, is-lasso}
+use Rattle.record.specs.Ranges.{state-entries, within}
+use Rattle.record.specs.Readers.{sound}
+use Rattle.record.proofs.Fits.{in-within, within-in}
+use Rattle.refusal.specs.Tests.{done, first}
+use Rattle.refusal.proofs.TestLaws.{passes-done, done-passes, zero-done, either}
+use Rattle.theory.specs.Lassos as Lassos
+use Rattle.theory.specs.Rankings as Rankings
+use Rattle.verdict.specs.Bounding.{Bounding, before-outside, state-tests, invariant, bounding, bounded, bounds}
+use Rattle.verdict.specs.Contents.{loop-in, ranking-in, lasso-in}
+use Rattle.verdict.specs.Pairs.{kind-of, variables-of, conditions, ranked-loop, ranking-of, rank-of, start-of, fall-of, outcome-of}
+use Rattle.verdict.specs.Stages.{Said, agreed, refusal, said, verdict-of}
+use Rattle.verdict.specs.declared.Outcome.{Outcome}
+use Rattle.verdict.specs.declared.Outcome.the-variants.{Ranking, Lasso}
+use Rattle.verdict.proofs.Accepted.{Both-sound, folded-named, ranking-conditions, lasso-conditions, shows}
+use Rattle.verdict.proofs.StageLaws.{Agrees, agrees-said, said-agrees, number-said, Named, zero-agreed}
+
+-- ---- a state in range
+
+-- an entry in range is passed over
+pub before-inside : (x : ℤ) (xs : List ℤ) → within state-entries x ≡ true → before-outside (x ∷ xs) ≡ suc (before-outside xs)
+unfolding before-outside
+before-inside x xs h = step (within state-entries x) h
+  where
+    step : (b : Bool) → b ≡ true → elim b [ true ↦ suc (before-outside xs) | false ↦ 0 ] ≡ suc (before-outside xs)
+    step true e = refl
+    step false e = cc
+
+-- one out of range stops the count
+before-stops : (x : ℤ) (xs : List ℤ) → within state-entries x ≡ false → before-outside (x ∷ xs) ≡ 0
+unfolding before-outside
+before-stops x xs h = step (within state-entries x) h
+  where
+    step : (b : Bool) → b ≡ false → _≡_ {A = ℕ} (elim b [ true ↦ suc (before-outside xs) | false ↦ 0 ]) 0
+    step true e = cc
+    step false e = refl
+
+-- every entry is passed over exactly when each is in range
+inside-all : (xs : List ℤ) → before-outside xs ≡ length xs → Each (In state-entries) xs
+unfolding Each
+inside-all [] h = tt
+inside-all (x ∷ xs) h =
+    either (within state-entries x)
+    (λ e. (within-in state-entries x e, inside-all xs (suc-inj (sym (before-inside x xs e) ∙ h))))
+    (λ e. absurd (let z : 0 ≡ suc (length xs) = sym (before-stops x xs e) ∙ h in omega arith))
+
+all-inside : (xs : List ℤ) → Each (In state-entries) xs → before-outside xs ≡ length xs
+unfolding Each before-outside
+all-inside [] h = refl
+all-inside (x ∷ xs) h = before-inside x xs (in-within (h .0)) ∙ ap suc (all-inside xs (h .1))
+
+-- ---- the bound call
+
+bounding-named : (b : Bounding) → Named bounding b
+unfolding bounding sound state-tests invariant conditions
+bounding-named b = (
+  zero-done sound (b .records .loop-is) refl,
+  (
+    zero-done sound (b .records .certificate-is) refl,
+    (
+      zero-done state-tests b refl,
+      (
+        folded-named _,
+        (
+          zero-done invariant b refl,
+          tt,
+        ),
+      ),
+    ),
+  ),
+)
+
+pub number-bounded : (b : Bounding) → number-said (said bounding b) ≡ bounds b .verdict .number
+unfolding bounds bounded verdict-of
+number-bounded b = number-is (said bounding b) _ _
+  where
+    number-is : (s : Said) (o : Outcome) (k : ℕ) → number-said s ≡ bounded s o k .verdict .number
+    number-is agreed o k = refl
+    number-is (refusal a n p) o k = refl
+
+-- 0 is told exactly when every stage is done
+pub bounds-agrees : (b : Bounding) → (bounds b .verdict .number ≡ 0) ↔ Agrees bounding b
+bounds-agrees b = (
+  λ h. said-agrees bounding b (zero-agreed bounding b (bounding-named b) (number-bounded b ∙ h)),
+  λ h. sym (number-bounded b) ∙ ap number-said (agrees-said bounding b h),
+)
+
+-- the state has n entries, each in range
+pub record State-in (b : Bounding) : Type 0 where
+  pub counted : length (b .state) ≡ variables-of (b .records)
+  pub each : Each (In state-entries) (b .state)
+
+state-fits : (b : Bounding) → (first state-tests b ≡ done) ↔ State-in b
+unfolding state-tests
+state-fits b = (
+  λ h.
+      let p = done-passes state-tests b h in
+      record { counted = eqb-true _ _ (p .0); each = inside-all (b .state) (eqb-true _ _ (p .1 .0)) },
+  λ h. passes-done state-tests b (eq-eqb _ _ (h .counted), (eq-eqb _ _ (all-inside (b .state) (h .each)), tt)),
+)
+
+-- a lasso's state meets the invariant
+pub invariant-holds : (b : Bounding) → kind-of (b .records) ≡ lasso → (first invariant b ≡ done) ↔ Lassos.Invariant (lasso-in (b .records .certificate-is)) (b .state)
+unfolding invariant is-lasso
+invariant-holds b e = (
+  λ h. true-le _ _ (rw e at (done-passes invariant b h .0)),
+  λ h. passes-done invariant b (rw e (le-true h), tt),
+)
+
+-- ---- accepted exactly when
+
+pub record Ranking-bounded (b : Bounding) : Type 0 where
+  pub both-sound : Both-sound (b .records)
+  pub state-in : State-in b
+  pub holds : Rankings.RankingHolds (loop-in (b .records .loop-is)) (ranking-in (b .records .certificate-is))
+
+pub record Lasso-bounded (b : Bounding) : Type 0 where
+  pub both-sound : Both-sound (b .records)
+  pub state-in : State-in b
+  pub holds : Lassos.LassoHolds (loop-in (b .records .loop-is)) (lasso-in (b .records .certificate-is))
+  pub starts : Lassos.Invariant (lasso-in (b .records .certificate-is)) (b .state)
+
+pub bounded-exactly-when-ranking : (b : Bounding) → kind-of (b .records) ≡ ranking → (bounds b .verdict .number ≡ 0) ↔ Ranking-bounded b
+unfolding bounding invariant is-lasso
+bounded-exactly-when-ranking b e =
+    let conditions-hold = ranking-conditions (b .records) e in (
+      λ h.
+          let a = bounds-agrees b .0 h in
+          record {
+            both-sound = record { loop-sound = a .0; certificate-sound = a .1 .0 };
+            state-in = state-fits b .0 (a .1 .1 .0);
+            holds = conditions-hold .0 (a .1 .1 .1 .0);
+          },
+      λ h.
+          bounds-agrees b .1 (
+            h .both-sound .loop-sound,
+            (
+              h .both-sound .certificate-sound,
+              (
+                state-fits b .1 (h .state-in),
+                (
+                  conditions-hold .1 (h .holds),
+                  (
+                    passes-done invariant b (rw e, tt),
+                    tt,
+                  ),
+                ),
+              ),
+            ),
+          ),
+    )
+
+pub bounded-exactly-when-lasso : (b : Bounding) → kind-of (b .records) ≡ lasso → (bounds b .verdict .number ≡ 0) ↔ Lasso-bounded b
+unfolding bounding
+bounded-exactly-when-lasso b e =
+    let conditions-hold = lasso-conditions (b .records) e in (
+      λ h.
+          let a = bounds-agrees b .0 h in
+          record {
+            both-sound = record { loop-sound = a .0; certificate-sound = a .1 .0 };
+            state-in = state-fits b .0 (a .1 .1 .0);
+            holds = conditions-hold .0 (a .1 .1 .1 .0);
+            starts = invariant-holds b e .0 (a .1 .1 .1 .1 .0);
+          },
+      λ h.
+          bounds-agrees b .1 (
+            h .both-sound .loop-sound,
+            (
+              h .both-sound .certificate-sound,
+              (
+                state-fits b .1 (h .state-in),
+                (
+                  conditions-hold .1 (h .holds),
+                  (
+                    invariant-holds b e .1 (h .starts),
+                    tt,
+                  ),
+                ),
+              ),
+            ),
+          ),
+    )
+
+-- ---- what it answers
+
+accepted-said : (b : Bounding) → bounds b .verdict .number ≡ 0 → said bounding b ≡ agreed
+accepted-said b h = agrees-said bounding b (bounds-agrees b .0 h)
+
+pub ranking-bound-is : (b : Bounding) → kind-of (b .records) ≡ ranking → bounds b .verdict .number ≡ 0
+    → let l = loop-in (b .records .loop-is) in let c = ranking-in (b .records .certificate-is) in
+    bounds b ≡ record { verdict = shows (Ranking (Rankings.start l c) (Rankings.fall l c)); bound = Rankings.bound (Rankings.rank l c) (Rankings.start l c) (Rankings.fall l c) (b .state) }
+unfolding bounds bounded verdict-of outcome-of rank-of start-of fall-of ranked-loop ranking-of is-lasso
+ranking-bound-is b e h = rw (accepted-said b h, e, e)
+
+pub lasso-bound-is : (b : Bounding) → kind-of (b .records) ≡ lasso → bounds b .verdict .number ≡ 0
+    → let c = lasso-in (b .records .certificate-is) in let l = Lassos.longer (loop-in (b .records .loop-is)) c in let r = c .ranking in
+    bounds b ≡ record { verdict = shows (Lasso (Rankings.start l r) (Rankings.fall l r)); bound = Rankings.bound (Rankings.rank l r) (Rankings.start l r) (Rankings.fall l r) (b .state) }
+unfolding bounds bounded verdict-of outcome-of rank-of start-of fall-of ranked-loop ranking-of is-lasso
+lasso-bound-is b e h = rw (accepted-said b h, e, e)
