@@ -87,7 +87,7 @@ littleAt-digits width x rest small = rw (take-at (digits width x) rest width (le
 -- ---- the bytes of a record that passes every test
 
 -- the reader that gets them: a certificate's with the same n and m, a loop's with none
-abbrev over : Writer → (Kind → Bool) → ℕ → Reader
+abbrev pub over : Writer → (Kind → Bool) → ℕ → Reader
 over w wants room =
     record {
       bytes = W.record-bytes w;
@@ -191,7 +191,7 @@ module _ (w : Writer) (s : Writable w) where
   lasso-count e = ap (λ l. getD l 0 (pos 0)) (rw e at list-read)
 
   module _ (wants : Kind → Bool) (room : ℕ) where
-    counts-same : R.counts-read (over w wants room) ≡ W.counts-given w
+    pub counts-same : R.counts-read (over w wants room) ≡ W.counts-given w
     unfolding R.counts-read R.kind R.kind-number W.counts-given W.kind is-loop is-lasso
     counts-same = by-kind (kindOf (w .kind-number)) refl
       where
@@ -202,7 +202,7 @@ module _ (w : Writer) (s : Writable w) where
         by-kind lasso e = rw (kind-read, e, at-six, ← lasso-count e)
         by-kind other e = rw (kind-read, e)
 
-    kind-same : R.kind (over w wants room) ≡ W.kind w
+    pub kind-same : R.kind (over w wants room) ≡ W.kind w
     unfolding R.kind R.kind-number W.kind
     kind-same = ap kindOf kind-read
 
@@ -210,7 +210,7 @@ module _ (w : Writer) (s : Writable w) where
     unfolding R.fields W.fields
     fields-same = rw (kind-same, counts-same)
 
-    list-same : R.list (over w wants room) ≡ w .list
+    pub list-same : R.list (over w wants room) ≡ w .list
     unfolding R.list R.list-start
     list-same = rw (fields-same, kind-same, ← drop-drop (widths (ahead (W.kind w))) 6 (W.record-bytes w), body-read) list-read
 
@@ -241,7 +241,7 @@ module _ (w : Writer) (s : Writable w) where
         by-kind lasso e h = rw e (omega (arith, simp widths-append at (rw e at h)))
         by-kind other e h = rw e (omega (arith, simp widths-append at (rw e at h)))
 
-    passes-sound : wants (W.kind w) ≡ true → Passes sound (over w wants room)
+    pub passes-sound : wants (W.kind w) ≡ true → Passes sound (over w wants room)
     unfolding sound R.arguments-fit W.length-stated
     passes-sound wanted =
         let r = over w wants room in

@@ -4,3 +4,5 @@ pub mod Parts
 pub mod Accepted
 pub mod Demands
 pub mod BoundAnswers
+pub mod VerdictEdges
+pub mod InValues

@@ -3,7 +3,7 @@ use Prim.Native.Nat.{ℕ}
 use mathlib.Core.List.{List, [], _∷_}
 use lib.IntN.{ℤ, pos, negℤ}
 use lib.ListN.{length}
-use Rattle.record.specs.Contents.{rows-values, ranking-values, exclusion-values}
+use Rattle.record.specs.Contents.{rows-values, ranking-values, exclusion-values, Lasso-parts, lasso-values}
 use Rattle.record.specs.Samples as Records
 use Rattle.record.specs.Writers.{record-bytes, writer}
 use Rattle.whole.specs.Rows.{Row}
@@ -16,7 +16,7 @@ abbrev pub − : ℕ → ℤ
 abbrev pub row : List ℤ → List ℤ → ℤ → Row
 row now next right = record { now = now; next = next; right = right }
 
--- the bytes of a loop over n variables, of a ranking, and of an exclusion
+-- the bytes of a loop over n variables, of a ranking, of an exclusion, and of a lasso
 unfoldable pub loop-bytes : ℕ → List Row → List ℕ
 loop-bytes n rows = record-bytes (writer 1 n (length rows) (rows-values rows) [])
 
@@ -25,6 +25,9 @@ ranking-bytes n Y Z = record-bytes (writer 2 n (length Y) (ranking-values Y Z) [
 
 unfoldable pub exclusion-bytes : ℕ → ℕ → List ℤ → List ℤ → List ℤ → List ℕ
 exclusion-bytes m q U V′ W = record-bytes (writer 3 (length U) m (exclusion-values (pos q) U V′ W) [])
+
+unfoldable pub lasso-bytes : ℕ → ℕ → Lasso-parts → List ℕ
+lasso-bytes n m c = record-bytes (writer 4 n m (lasso-values c) [])
 
 -- ---- loops
 
@@ -109,3 +112,19 @@ S14 = ranking-bytes 1 (pos 1 ∷ pos 0 ∷ []) (pos 0 ∷ pos 1 ∷ [])
 -- P's second certificate: Y (1,0,0), Z (0,1,0)
 unfoldable pub second-of-P : List ℕ
 second-of-P = ranking-bytes 2 (pos 1 ∷ pos 0 ∷ pos 0 ∷ []) (pos 0 ∷ pos 1 ∷ pos 0 ∷ [])
+
+-- S10's parts with a T and an h0 of one's own; S10 itself has 1 and 1
+unfoldable pub S10-parts : ℤ → ℤ → Lasso-parts
+S10-parts T h0 =
+    record {
+      stem = row (pos 0 ∷ pos 0 ∷ []) (pos 0 ∷ − 1 ∷ []) (− 1) ∷ [];
+      s = pos 0 ∷ pos 1 ∷ [];
+      s0 = − 1;
+      k = pos 1;
+      T = T ∷ [];
+      k2 = pos 1;
+      H = pos 0 ∷ pos 0 ∷ pos 1 ∷ [];
+      h0 = h0;
+      Y = pos 1 ∷ pos 0 ∷ pos 0 ∷ pos 0 ∷ [];
+      Z = pos 0 ∷ pos 1 ∷ pos 0 ∷ pos 1 ∷ [];
+    }
