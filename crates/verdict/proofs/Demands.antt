@@ -3,13 +3,14 @@
 use mathlib.Core.Path.{_≡_, refl, sym, ap, _∙_}
 use Prim.Native.Nat.{ℕ, _≤_}
 use mathlib.Core.Bool.{Bool, true, false}
-use mathlib.Core.List.{List, [], _∷_}
+use mathlib.Core.List.{List}
 use native.Mathlib.Omega.{arith}
 use lib.Dec.{eqb}
 use lib.IntN.{ℤ, pos}
 use lib.ListN.{length}
 use borrow.Author.Tests.{eqb-true}
 use Rattle.whole.specs.Sums.{Each, NonNeg}
+use Rattle.whole.proofs.EachLaws.{each-then}
 use Rattle.whole.proofs.Solve.{v, le-fact}
 use Rattle.record.specs.Contents.{In}
 use Rattle.record.specs.Layouts.{ranking, exclusion, lasso, is-certificate}
@@ -39,9 +40,8 @@ use Rattle.verdict.proofs.Parts.{ranking-parts, exclusion-parts, lasso-
 -- ---- what the ranges give
 
 nonneg-all : (zs : List ℤ) → Each (In multipliers) zs → Each NonNeg zs
-unfolding Each multipliers _to_
-nonneg-all [] h = tt
-nonneg-all (z ∷ zs) h = (h .0 .least, nonneg-all zs (h .1))
+unfolding multipliers _to_
+nonneg-all zs h = each-then (In multipliers) NonNeg zs (λ z in-range. in-range .least) h
 
 -- a scale is at least 1
 scale-positive : (k : ℕ) → In scales (pos k) → 1 ≤ k

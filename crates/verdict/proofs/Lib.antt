@@ -1,8 +1,11 @@
+pub mod Accepted
+pub mod BoundAnswers
+pub mod Demands
+pub mod InValues
+pub mod Parts
 pub mod SampleSheet
 pub mod StageLaws
-pub mod Parts
-pub mod Accepted
-pub mod Demands
-pub mod BoundAnswers
+pub mod SumsFit
+pub mod SumsFitInBytes
 pub mod VerdictEdges
-pub mod InValues
+pub mod WrongJudges

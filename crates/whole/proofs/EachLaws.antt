@@ -26,3 +26,8 @@ module _ {B : Type 0} (P : B → Type 0) where
   unfolding Each
   each-both Q R [] f e g = tt
   each-both Q R (b ∷ bs) f e g = (f b (e .0) (g .0), each-both Q R bs f (e .1) (g .1))
+
+  pub each-then : (Q : B → Type 0) (bs : List B) → ((b : B) → P b → Q b) → Each P bs → Each Q bs
+  unfolding Each
+  each-then Q [] f e = tt
+  each-then Q (b ∷ bs) f e = (f b (e .0), each-then Q bs f (e .1))
