@@ -9,16 +9,16 @@ use Rattle.record.specs.Fields.{width, Field, widths}
 use Rattle.record.specs.Layouts.{Kind, loop, ranking, exclusion, lasso, other, is-loop, is-certificate, Counts, variable-count, row-count, entry, right-side, multiplier, scale, direction, row, rowsOf, counts, layout, lengthOf, ahead, listed}
 use Rattle.record.proofs.FieldLaws.{widths-append}
 
-widths-replicate : (n : ℕ) (f : Field) → widths (replicate n f) ≡ n * width (f .form)
+pub widths-replicate : (n : ℕ) (f : Field) → widths (replicate n f) ≡ n * width (f .form)
 unfolding widths
 widths-replicate zero f = omega arith
 widths-replicate (suc n) f = rw (widths-replicate n f) (omega arith)
 
-widths-row : (n : ℕ) → widths (row n) ≡ 4 * n + 4
+pub widths-row : (n : ℕ) → widths (row n) ≡ 4 * n + 4
 unfolding row widths width entry right-side
 widths-row n = simp (widths-append, widths-replicate) (omega arith)
 
-widths-rows : (n m : ℕ) → widths (rowsOf n m) ≡ m * (4 * n + 4)
+pub widths-rows : (n m : ℕ) → widths (rowsOf n m) ≡ m * (4 * n + 4)
 unfolding rowsOf widths
 widths-rows n zero = omega arith
 widths-rows n (suc m) = rw (widths-append, widths-row n, widths-rows n m) (omega arith)

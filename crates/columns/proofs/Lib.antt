@@ -1,0 +1,5 @@
+pub mod ColumnLaws
+pub mod ListLaws
+pub mod Sample
+pub mod SideLaws
+pub mod SumLaws

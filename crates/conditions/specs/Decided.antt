@@ -1,0 +1,83 @@
+-- What the tests of a certificate's conditions tell: whether they hold, and of a ranking what it then shows.
+use Prim.Native.Nat.{ℕ, _<_}
+use mathlib.Core.Path.{_≡_}
+use mathlib.Core.Bool.{Bool, true, false}
+use lib.IntN.{ℤ, pos, negℤ, _+ℤ_, _*ℤ_}
+use lib.Signed.{_≤ℤ_, _<ℤ_}
+use mathlib.Core.List.{List}
+use lib.ListN.{getD, take}
+use Rattle.theory.specs.Loops.{A, A′, b, Loop, Meets}
+use Rattle.theory.specs.Exclusions.{Exclusion, Stays}
+use Rattle.theory.specs.Lassos.{Lasso, LassoHolds, longer}
+use Rattle.theory.specs.Rankings.{Ranking, RankingHolds, rank, start, fall}
+use Rattle.columns.specs.Running.{CanGrow}
+use Rattle.conditions.specs.declared.Entry.{Entry}
+use Rattle.conditions.specs.declared.Ranked.{Ranked}
+use Rattle.whole.specs.Rows.{Row}
+use Rattle.whole.specs.Sums.{sum, less}
+
+-- a test's answer says whether P holds
+pub record Decides (answer : Bool) (P : Type 0) : Type 0 where
+  pub yes-holds : answer ≡ true → P
+  pub no-fails : answer ≡ false → P → ⊥
+
+-- the first three conditions at one column: of Y and Z, the totals over A (`now`) and over A' (`next`)
+pub record ColumnHolds (y-now y-next z-now z-next : ℤ) : Type 0 where
+  pub first : y-next ≡ pos 0
+  pub second : y-now ≡ z-now
+  pub third : z-now +ℤ z-next ≡ pos 0
+
+abbrev pub ColumnAt : Loop → Ranking → ℕ → Type 0
+ColumnAt loop c j = ColumnHolds (sum (c .Y) (A j) (loop .rows)) (sum (c .Y) (A′ j) (loop .rows)) (sum (c .Z) (A j) (loop .rows)) (sum (c .Z) (A′ j) (loop .rows))
+
+-- whether column j meets them, and its entry of the rank
+pub record EntryOf (r : Entry) (loop : Loop) (c : Ranking) (j : ℕ) : Type 0 where
+  pub decided : Decides (r .holds) (ColumnAt loop c j)
+  pub value-is : r .value ≡ sum (c .Z) (A′ j) (loop .rows)
+  pub value-grows : CanGrow (r .value)
+
+-- the fourth condition, and what is then shown: start -Yb, fall -Zb, and the rank
+pub record Shows (y-right z-right : ℤ) (rank : List ℤ) (r : Ranked) : Type 0 where
+  pub fourth : Decides (r .holds) (z-right <ℤ pos 0)
+  pub start-is : r .holds ≡ true → r .start ≡ negℤ y-right
+  pub fall-is : r .holds ≡ true → r .fall ≡ negℤ z-right
+  pub rank-is : r .holds ≡ true → r .rank ≡ rank
+
+-- whether a ranking of a loop holds; and then rank, start and fall
+pub record RankedBy (r : Ranked) (loop : Loop) (c : Ranking) : Type 0 where
+  pub decided : Decides (r .holds) (RankingHolds loop c)
+  pub start-is : r .holds ≡ true → r .start ≡ start loop c
+  pub fall-is : r .holds ≡ true → r .fall ≡ fall loop c
+  pub rank-is : r .holds ≡ true → take (loop .variables) (r .rank) ≡ rank loop c
+
+-- ---- exclusions: the two conditions at one row
+
+pub record RowExcluded (c : Exclusion) (row : Row) : Type 0 where
+  pub direction : Stays (c .«V») (c .U) row
+  pub step : Meets (c .q) (less (c .W) (c .«V»)) (c .W) row
+
+-- ---- lassos: start and kept have one shape. Rows weighted by `ws` carry the invariant s·x + s0 >= 0 from h times itself to k times itself; h is 0 at the start
+
+-- ΣwA = h s and ΣwA' = -k s, at column j
+pub record CarriedAt (rows : List Row) (ws s : List ℤ) (h k j : ℕ) : Type 0 where
+  pub now-is : sum ws (A j) rows ≡ pos h *ℤ getD s j (pos 0)
+  pub next-is : sum ws (A′ j) rows ≡ negℤ (pos k *ℤ getD s j (pos 0))
+
+-- at every column; and Σwb + h s0 <= k s0
+pub record Carried (n : ℕ) (rows : List Row) (ws s : List ℤ) (s0 : ℤ) (h k : ℕ) : Type 0 where
+  pub columns-are : (j : ℕ) → j < n → CarriedAt rows ws s h k j
+  pub right-is : (sum ws b rows +ℤ pos h *ℤ s0) ≤ℤ (pos k *ℤ s0)
+
+-- start and kept of a lasso
+abbrev pub Starts : ℕ → Lasso → Type 0
+Starts n c = Carried n (c .stem) (c .T) (c .s) (c .s0) 0 (c .k)
+
+abbrev pub Keeps : Loop → Lasso → Type 0
+Keeps loop c = Carried (loop .variables) (loop .rows) (c .H) (c .s) (c .s0) (c .h0) (c .k2)
+
+-- whether a lasso of a loop holds; and then rank, start and fall, over the loop with the added row
+pub record LassoBy (r : Ranked) (loop : Loop) (c : Lasso) : Type 0 where
+  pub decided : Decides (r .holds) (LassoHolds loop c)
+  pub start-is : r .holds ≡ true → r .start ≡ start (longer loop c) (c .ranking)
+  pub fall-is : r .holds ≡ true → r .fall ≡ fall (longer loop c) (c .ranking)
+  pub rank-is : r .holds ≡ true → take (loop .variables) (r .rank) ≡ rank (longer loop c) (c .ranking)

@@ -1,0 +1,374 @@
+// Whether a certificate's conditions hold (01, "Conditions"), from the bytes of sound records.
+ghost use mathlib.Core.Path.{_≡_};
+ghost use mathlib.Core.Bool.{true, false};
+ghost use Prim.Native.Nat.{_+_, _*_, _≤_, _<_};
+ghost use lib.IntN.{pos, negℤ, natAbs, _+ℤ_, _-ℤ_, _*ℤ_};
+ghost use Rattle.whole.specs.Sums.{sum};
+ghost use Rattle.theory.specs.Loops.{b};
+ghost use lib.Signed.{_≤ℤ_};
+ghost use lib.ListN.{length};
+ghost use Rattle.columns.specs.Places.{rightAt, RowsIn, MultipliersIn};
+ghost use Rattle.columns.specs.Running.{CanGrow};
+ghost use Rattle.conditions.specs.Decided.{Decides, ColumnHolds, EntryOf, Shows, RankedBy, RowExcluded, CarriedAt, Carried, Starts, Keeps, LassoBy};
+ghost use Rattle.conditions.specs.Held.{loop-held, ranking-held, exclusion-held, LassoIn, lasso-held, longer-held};
+ghost use Rattle.columns.specs.Lists.{multipliersFrom, entriesFrom, rowFrom, rowsFrom};
+ghost use Rattle.theory.specs.Exclusions.{ExclusionHolds};
+
+// A ranking's answer: whether its conditions hold, and then start, fall and the rank's entries.
+pub struct Ranked {
+    pub holds: bool,
+    pub start: i64,
+    pub fall: i64,
+    pub rank: [i64; 16],
+}
+
+// One column's part of it: whether its conditions hold, and its entry of the rank.
+pub struct Entry {
+    pub holds: bool,
+    pub value: i64,
+}
+
+fn fails() -> Ranked
+    ensures { λ r. ⌜ r .holds ≡ false ⌝ }
+{
+    Ranked {
+        holds: false,
+        start: 0,
+        fall: 0,
+        rank: [0; 16],
+    }
+}
+
+// The first three conditions at one column: of Y and Z the totals over A and over A'.
+fn column_holds(ya: i64, ya2: i64, za: i64, za2: i64) -> bool
+    requires { ⌜ CanGrow za × CanGrow za2 ⌝ }
+    ensures { λ r. ⌜ Decides r (ColumnHolds ya ya2 za za2) ⌝ }
+{
+    if ya2 != 0 {
+        return false;
+    }
+    if ya != za {
+        return false;
+    }
+    za + za2 == 0
+}
+
+// Column j of a ranking whose Y and Z lie from a place on.
+fn ranked_column(
+    rows: &[u8],
+    n: usize,
+    m: usize,
+    j: usize,
+    certificate: &[u8],
+    place: usize,
+) -> Entry
+    requires { ⌜ RowsIn (now rows) 10 n m × (j < n) × (m ≤ 64) × (place < 65536) × MultipliersIn (now certificate) (place + 2 * m) m ⌝ }
+    ensures { λ r. ⌜ EntryOf r (loop-held (now (rows .entry)) n m) (ranking-held (now (certificate .entry)) place m) j ⌝ }
+{
+    let both = columns::columns_of(rows, 10, n, j, certificate, place, place + 2 * m, m);
+    let y = both.y;
+    let z = both.z;
+    let ya = y.now;
+    let ya2 = y.next;
+    let za = z.now;
+    let za2 = z.next;
+    Entry {
+        holds: column_holds(ya.sum, ya2.sum, za.sum, za2.sum),
+        value: za2.sum,
+    }
+}
+
+// Kind 2: YA' = 0; (Y - Z)A = 0; Z(A + A') = 0; Zb < 0.
+pub fn ranking(rows: &[u8], n: usize, m: usize, certificate: &[u8]) -> Ranked
+    requires { ⌜ RowsIn (now rows) 10 n m × (n ≤ 16) × (m ≤ 64) × MultipliersIn (now certificate) (6 + 2 * m) m ⌝ }
+    ensures { λ r. ⌜ RankedBy r (loop-held (now (rows .entry)) n m) (ranking-held (now (certificate .entry)) 6 m) ⌝ }
+{
+    let mut rank = [0i64; 16];
+    for j in 0..n {
+        let entry = ranked_column(rows, n, m, j, certificate, 6);
+        if !entry.holds {
+            return fails();
+        }
+        let value = entry.value;
+        rank[j] = value;
+    }
+    let yb = columns::right_of(rows, 10, n, certificate, 6, m);
+    let zb = columns::right_of(rows, 10, n, certificate, 6 + 2 * m, m);
+    shown(yb.sum, zb.sum, rank)
+}
+
+// The fourth condition, and what a ranking that meets all four shows.
+fn shown(yb: i64, zb: i64, rank: [i64; 16]) -> Ranked
+    requires { ⌜ CanGrow yb × CanGrow zb ⌝ }
+    ensures { λ r. ⌜ Shows yb zb rank r ⌝ }
+{
+    if 0 <= zb {
+        return fails();
+    }
+    Ranked {
+        holds: true,
+        start: -yb,
+        fall: -zb,
+        rank: rank,
+    }
+}
+
+// Kind 3 at the row that starts at a place: A·V + A'·U <= 0, and A·(W - V) + A'·W <= q·b.
+fn row_excluded(rows: &[u8], row: usize, n: usize, certificate: &[u8]) -> bool
+    requires { ⌜ (row + (4 * n + 4) ≤ length (now rows)) × (8 + 12 * n ≤ length (now certificate)) × (n ≤ 16) ⌝ }
+    ensures { λ r. ⌜ Decides r (RowExcluded (exclusion-held (now (certificate .entry)) n) (rowFrom (now (rows .entry)) n row)) ⌝ }
+{
+    let sides = columns::along(rows, row, n, certificate, 8);
+    let right = times(
+        endian::u16_at(certificate, 6),
+        endian::i32_at(rows, row + 4 * n),
+    );
+    if 0 < sides.direction {
+        return false;
+    }
+    sides.step <= right
+}
+
+// A count or multiplier times a right side or an entry.
+fn times(k: usize, z: i64) -> i64
+    requires { ⌜ (k < 65536) × (natAbs z ≤ 2147483648) ⌝ }
+    ensures { λ r. ⌜ (r ≡ pos k *ℤ z) × (natAbs r ≤ 140735340871680) ⌝ }
+{
+    (k as i64) * z
+}
+
+// Kind 3, every row.
+pub fn exclusion(rows: &[u8], n: usize, m: usize, certificate: &[u8]) -> bool
+    requires { ⌜ RowsIn (now rows) 10 n m × (n ≤ 16) × (8 + 12 * n ≤ length (now certificate)) ⌝ }
+    ensures { λ r. ⌜ Decides r (ExclusionHolds (loop-held (now (rows .entry)) n m) (exclusion-held (now (certificate .entry)) n)) ⌝ }
+{
+    let stride = 4 * n + 4;
+    let mut at = 10;
+    for i in 0..m {
+        if !row_excluded(rows, at, n, certificate) {
+            return false;
+        }
+        at += stride;
+    }
+    true
+}
+
+// ---- kind 4
+
+// Start or kept at one column, of one list of multipliers: the total over A is h s, that over A' is -k s.
+fn column_carries(now: i64, next: i64, s: i64, h: usize, k: usize) -> bool
+    requires { ⌜ CanGrow next × (natAbs s ≤ 32768) × (h < 65536) × (k < 65536) ⌝ }
+    ensures { λ r. ⌜ Decides r ((now ≡ pos h *ℤ s) × (next ≡ negℤ (pos k *ℤ s))) ⌝ }
+{
+    let hs = times(h, s);
+    let ks = times(k, s);
+    if now != hs {
+        return false;
+    }
+    next + ks == 0
+}
+
+// The same, of column j of rows that lie from a start on; s lies in the certificate.
+fn column_carried(
+    rows: &[u8],
+    start: usize,
+    n: usize,
+    count: usize,
+    j: usize,
+    certificate: &[u8],
+    place: usize,
+    s: usize,
+    h: usize,
+    k: usize,
+) -> bool
+    requires { ⌜ RowsIn (now rows) start n count × (j < n) × (count ≤ 64) × MultipliersIn (now certificate) place count
+        × (s + 2 * n ≤ length (now certificate)) × (s < 65536) × (n ≤ 16) × (h < 65536) × (k < 65536) ⌝ }
+    ensures { λ r. ⌜ Decides r (CarriedAt (rowsFrom (now (rows .entry)) n start count) (multipliersFrom (now (certificate .entry)) place count)
+        (entriesFrom (now (certificate .entry)) s n) h k j) ⌝ }
+{
+    let column = columns::column_of(rows, start, n, j, certificate, place, count);
+    let entry = endian::i16_at(certificate, s + 2 * j);
+    let over = column.now;
+    let after = column.next;
+    column_carries(over.sum, after.sum, entry, h, k)
+}
+
+// The right sides of start or kept: their total and h s0 are at most k s0.
+fn right_carries(right: i64, s0: i64, h: usize, k: usize) -> bool
+    requires { ⌜ CanGrow right × (natAbs s0 ≤ 2147483648) × (h < 65536) × (k < 65536) ⌝ }
+    ensures { λ r. ⌜ Decides r ((right +ℤ pos h *ℤ s0) ≤ℤ (pos k *ℤ s0)) ⌝ }
+{
+    let hs = times(h, s0);
+    let ks = times(k, s0);
+    right + hs <= ks
+}
+
+// Start or kept: the weighted rows carry the invariant from h times itself before a step to k times itself after it.
+fn carried(
+    rows: &[u8],
+    start: usize,
+    n: usize,
+    count: usize,
+    certificate: &[u8],
+    place: usize,
+    s: usize,
+    h: usize,
+    k: usize,
+) -> bool
+    requires { ⌜ RowsIn (now rows) start n count × (count ≤ 64) × MultipliersIn (now certificate) place count
+        × (s + 2 * n + 4 ≤ length (now certificate)) × (s < 65536) × (n ≤ 16) × (h < 65536) × (k < 65536) ⌝ }
+    ensures { λ r. ⌜ Decides r (Carried n (rowsFrom (now (rows .entry)) n start count) (multipliersFrom (now (certificate .entry)) place count)
+        (entriesFrom (now (certificate .entry)) s n) (rightAt (now (certificate .entry)) (s + 2 * n)) h k) ⌝ }
+{
+    for j in 0..n {
+        if !column_carried(rows, start, n, count, j, certificate, place, s, h, k) {
+            return false;
+        }
+    }
+    let right = columns::right_of(rows, start, n, certificate, place, count);
+    right_carries(right.sum, endian::i32_at(certificate, s + 2 * n), h, k)
+}
+
+// Column j of a lasso's ranking: the loop's rows and the added row -s·x <= s0, whose multipliers are the last of Y and of Z.
+fn lasso_column(
+    rows: &[u8],
+    n: usize,
+    m: usize,
+    j: usize,
+    certificate: &[u8],
+    place: usize,
+    s: usize,
+) -> Entry
+    requires { ⌜ RowsIn (now rows) 10 n m × (j < n) × (m ≤ 64) × (n ≤ 16) × (place < 65536) × (s < 65536)
+        × (place + 4 * (m + 1) ≤ length (now certificate)) × (s + 2 * n + 4 ≤ length (now certificate)) ⌝ }
+    ensures { λ r. ⌜ EntryOf r (longer-held (now (rows .entry)) n m (now (certificate .entry)) s) (ranking-held (now (certificate .entry)) place (m + 1)) j ⌝ }
+{
+    let z = place + 2 * (m + 1);
+    let both = columns::columns_of(rows, 10, n, j, certificate, place, z, m);
+    let entry = endian::i16_at(certificate, s + 2 * j);
+    let under_y = both.y;
+    let under_z = both.z;
+    let ya = under_y.now;
+    let ya2 = under_y.next;
+    let za = under_z.now;
+    let za2 = under_z.next;
+    let y_added = less_times(ya.sum, endian::u16_at(certificate, place + 2 * m), entry);
+    let z_added = less_times(za.sum, endian::u16_at(certificate, z + 2 * m), entry);
+    Entry {
+        holds: column_holds(y_added, ya2.sum, z_added, za2.sum),
+        value: za2.sum,
+    }
+}
+
+// A total less a multiplier times an entry: one row more, which is minus that entry.
+fn less_times(total: i64, k: usize, z: i64) -> i64
+    requires { ⌜ (natAbs total ≤ 139586437120) × (k < 65536) × (natAbs z ≤ 32768) ⌝ }
+    ensures { λ r. ⌜ (r ≡ total -ℤ pos k *ℤ z) × CanGrow r ⌝ }
+{
+    total - times(k, z)
+}
+
+// A total and a multiplier times a right side: one row more.
+fn and_times(total: i64, k: usize, z: i64) -> i64
+    requires { ⌜ (natAbs total ≤ 9147797156659200) × (k < 65536) × (natAbs z ≤ 2147483648) ⌝ }
+    ensures { λ r. ⌜ (r ≡ total +ℤ pos k *ℤ z) × CanGrow r ⌝ }
+{
+    total + times(k, z)
+}
+
+// The right sides of a lasso's ranking under one list of multipliers.
+fn lasso_right(rows: &[u8], n: usize, m: usize, certificate: &[u8], place: usize, s: usize) -> i64
+    requires { ⌜ RowsIn (now rows) 10 n m × (m ≤ 64) × (n ≤ 16) × (place < 131072) × (s < 65536)
+        × (place + 2 * (m + 1) ≤ length (now certificate)) × (s + 2 * n + 4 ≤ length (now certificate)) ⌝ }
+    ensures { λ r. ⌜ (r ≡ sum (multipliersFrom (now (certificate .entry)) place (m + 1)) b (longer-held (now (rows .entry)) n m (now (certificate .entry)) s .rows)) × CanGrow r ⌝ }
+{
+    let right = columns::right_of(rows, 10, n, certificate, place, m);
+    and_times(
+        right.sum,
+        endian::u16_at(certificate, place + 2 * m),
+        endian::i32_at(certificate, s + 2 * n),
+    )
+}
+
+// The ranking of kind 4: the four conditions over the loop with the added row.
+fn lasso_ranking(
+    rows: &[u8],
+    n: usize,
+    m: usize,
+    certificate: &[u8],
+    place: usize,
+    s: usize,
+) -> Ranked
+    requires { ⌜ RowsIn (now rows) 10 n m × (m ≤ 64) × (n ≤ 16) × (place < 65536) × (s < 65536)
+        × (place + 4 * (m + 1) ≤ length (now certificate)) × (s + 2 * n + 4 ≤ length (now certificate)) ⌝ }
+    ensures { λ r. ⌜ RankedBy r (longer-held (now (rows .entry)) n m (now (certificate .entry)) s) (ranking-held (now (certificate .entry)) place (m + 1)) ⌝ }
+{
+    let mut rank = [0i64; 16];
+    for j in 0..n {
+        let entry = lasso_column(rows, n, m, j, certificate, place, s);
+        if !entry.holds {
+            return fails();
+        }
+        let value = entry.value;
+        rank[j] = value;
+    }
+    let yb = lasso_right(rows, n, m, certificate, place, s);
+    let zb = lasso_right(rows, n, m, certificate, place + 2 * (m + 1), s);
+    shown(yb, zb, rank)
+}
+
+// Start: TB = 0, TB' = -k s, Td <= k s0.
+fn starts(certificate: &[u8], n: usize, m: usize, ms: usize) -> bool
+    requires { ⌜ LassoIn (now certificate) n m ms ⌝ }
+    ensures { λ r. ⌜ Decides r (Starts n (lasso-held (now (certificate .entry)) n m ms)) ⌝ }
+{
+    let s = 8 + ms * (4 * n + 4);
+    let k = s + 2 * n + 4;
+    carried(
+        certificate,
+        8,
+        n,
+        ms,
+        certificate,
+        k + 2,
+        s,
+        0,
+        endian::u16_at(certificate, k),
+    )
+}
+
+// Kept: HA - h0 s = 0, HA' = -k2 s, Hb + h0 s0 <= k2 s0.
+fn keeps(rows: &[u8], n: usize, m: usize, certificate: &[u8], ms: usize) -> bool
+    requires { ⌜ RowsIn (now rows) 10 n m × LassoIn (now certificate) n m ms ⌝ }
+    ensures { λ r. ⌜ Decides r (Keeps (loop-held (now (rows .entry)) n m) (lasso-held (now (certificate .entry)) n m ms)) ⌝ }
+{
+    let s = 8 + ms * (4 * n + 4);
+    let k2 = s + 2 * n + 6 + 2 * ms;
+    let h = k2 + 2;
+    carried(
+        rows,
+        10,
+        n,
+        m,
+        certificate,
+        h,
+        s,
+        endian::u16_at(certificate, h + 2 * m),
+        endian::u16_at(certificate, k2),
+    )
+}
+
+// Kind 4: start, kept, and the ranking over the loop with the added row.
+pub fn lasso(rows: &[u8], n: usize, m: usize, certificate: &[u8], ms: usize) -> Ranked
+    requires { ⌜ RowsIn (now rows) 10 n m × LassoIn (now certificate) n m ms ⌝ }
+    ensures { λ r. ⌜ LassoBy r (loop-held (now (rows .entry)) n m) (lasso-held (now (certificate .entry)) n m ms) ⌝ }
+{
+    if !starts(certificate, n, m, ms) {
+        return fails();
+    }
+    if !keeps(rows, n, m, certificate, ms) {
+        return fails();
+    }
+    let s = 8 + ms * (4 * n + 4);
+    lasso_ranking(rows, n, m, certificate, s + 2 * n + 10 + 2 * ms + 2 * m, s)
+}

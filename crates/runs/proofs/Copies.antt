@@ -1,0 +1,48 @@
+-- A copy along equal parts from one list into another, as readers and writers make it: bytes become values, or values bytes. `at` is
+-- where the copy stands in the source, `index` where in the room, and `left` how many parts are to come. And copies one after another.
+use mathlib.Core.Path.{_≡_, refl, sym, ap, _∙_}
+use Prim.Native.Nat.{ℕ, suc, _+_, _*_, _-_, _≤_, _<_}
+use mathlib.Core.List.{List, [], _∷_, _++_}
+use native.Mathlib.Nat.{add-zero, zero-add}
+use native.Mathlib.Omega.{arith}
+use lib.ListN.{length, drop, set}
+use lib.Seq.{sets, length-sets, sets-eq, drop-drop}
+
+module _ {X : Type 0} where
+  -- two runs of stores are one
+  pub sets-append : (l : List X) (i : ℕ) (xs ys : List X) → sets l i (xs ++ ys) ≡ sets (sets l i xs) (i + length xs) ys
+  sets-append l i [] ys = rw (add-zero i)
+  sets-append l i (x ∷ xs) ys =
+      let next : suc i + length xs ≡ i + suc (length xs) = omega arith in
+      sets-append (set l i x) (suc i) xs ys ∙ ap (λ k. sets (sets (set l i x) (suc i) xs) k ys) next
+
+  -- from the front
+  pub sets-front : (l xs : List X) → length xs ≤ length l → sets l 0 xs ≡ xs ++ drop (length xs) l
+  sets-front l xs h = sets-eq xs l 0 (omega arith) ∙ ap (λ k. xs ++ drop k l) (zero-add (length xs))
+
+module _ {X Y : Type 0} (parts : ℕ → List X → List Y) (wide long : ℕ) (source : List X) (place count : ℕ) (room : List Y) (from : ℕ) where
+  pub record Copy (now : List Y) (at index left : ℕ) : Type 0 where
+    pub reach : at + left * wide ≡ place + count * wide
+    pub reach-room : index + left * long ≡ from + count * long
+    pub kept : length now ≡ length room
+    pub same : sets now index (parts left (drop at source)) ≡ sets room from (parts count (drop place source))
+
+  pub copy-start : Copy room place from count
+  copy-start = record { reach = refl; reach-room = refl; kept = refl; same = refl }
+
+  pub copy-more : (now : List Y) (at index left : ℕ) (part : List Y) → Copy now at index left → 0 < left
+      → parts (suc (left - 1)) (drop at source) ≡ part ++ parts (left - 1) (drop wide (drop at source)) → length part ≡ long
+      → Copy (sets now index part) (at + wide) (index + long) (left - 1)
+  copy-more now at index left part c some more sized =
+      let one : left ≡ suc (left - 1) = omega arith in
+      record {
+        reach = omega (arith, rw one at (c .reach));
+        reach-room = omega (arith, rw one at (c .reach-room));
+        kept = length-sets now index part ∙ c .kept;
+        same =
+            rw (← sized, ← drop-drop wide at source)
+            (sym (sets-append now index part (parts (left - 1) (drop wide (drop at source)))) ∙ ap (sets now index) (sym more) ∙ rw one at (c .same));
+      }
+
+  pub copy-end : (now : List Y) (at index left : ℕ) → Copy now at index left → left ≡ 0 → parts 0 (drop at source) ≡ [] → now ≡ sets room from (parts count (drop place source))
+  copy-end now at index left c none nothing = sym (ap (sets now index) nothing) ∙ rw none at (c .same)

@@ -1,0 +1,60 @@
+-- A walk along equal parts of a body, fields or rows, from the first to the first that is out of range: the loop of every check of a
+-- run. `at` is where the walk stands and `left` how many parts are to come.
+use mathlib.Core.Path.{_≡_, refl, sym, ap, _∙_}
+use Prim.Native.Nat.{ℕ, suc, _+_, _*_, _-_, _≤_, _<_}
+use mathlib.Core.Bool.{true, false}
+use mathlib.Core.List.{List, [], _∷_, _++_}
+use native.Mathlib.Omega.{arith}
+use lib.ListN.{replicate}
+use Rattle.record.specs.Fields.{width, Field, widths}
+use Rattle.runs.specs.Runs.{fits, fault}
+use Rattle.runs.proofs.Faults.{fault-none, one-fits, one-out, stops, goes-on}
+
+module _ (parts : ℕ → List Field) (wide : ℕ) (bytes : List ℕ) (place count : ℕ) where
+  pub record Walk (at left : ℕ) : Type 0 where
+    pub reach : at + left * wide ≡ place + count * wide
+    pub same : fault (parts left) bytes at ≡ fault (parts count) bytes place
+
+  pub walk-start : Walk place count
+  walk-start = record { reach = refl; same = refl }
+
+  module _ (part : List Field) (more : (k : ℕ) → parts (suc k) ≡ part ++ parts k) (sized : widths part ≡ wide) (at left : ℕ) (w : Walk at left) (some : 0 < left) where
+    one-more : fault (part ++ parts (left - 1)) bytes at ≡ fault (parts count) bytes place
+    one-more =
+        let one : left ≡ suc (left - 1) = omega arith in
+        ap (λ fs. fault fs bytes at) (sym (more (left - 1)) ∙ ap parts (sym one)) ∙ w .same
+
+    pub walk-more : (here : ℕ) → here ≡ fault part bytes at → at + wide ≤ here → Walk (at + wide) (left - 1)
+    walk-more here told h =
+        let one : left ≡ suc (left - 1) = omega arith in
+        record {
+          reach = omega (arith, rw one at (w .reach));
+          same = goes-on bytes part (parts (left - 1)) at (at + wide) here (ap (λ k. at + k) (sym sized)) told h ∙ one-more;
+        }
+
+    pub walk-here : (here : ℕ) → here ≡ fault part bytes at → here < at + wide → here ≡ fault (parts count) bytes place
+    walk-here here told h = stops bytes part (parts (left - 1)) at (at + wide) here (ap (λ k. at + k) (sym sized)) told h ∙ one-more
+
+  pub walk-end : (at left : ℕ) → parts 0 ≡ [] → Walk at left → left ≡ 0 → at ≡ fault (parts count) bytes place
+  walk-end at left nothing w none = sym (fault-none bytes at) ∙ ap (λ fs. fault fs bytes at) (sym nothing ∙ ap parts (sym none)) ∙ w .same
+
+-- ---- a run of equal fields
+
+abbrev pub Run : Field → ℕ → List ℕ → ℕ → ℕ → ℕ → ℕ → Type 0
+Run f = Walk (λ k. replicate k f)
+
+module _ (f : Field) (wide : ℕ) (bytes : List ℕ) (place count : ℕ) (sized : width (f .form) ≡ wide) (at left : ℕ) (w : Run f wide bytes place count at left) where
+  one : widths (f ∷ []) ≡ wide
+  unfolding widths
+  one = omega arith
+
+  pub run-more : 0 < left → fits f bytes at ≡ true → Run f wide bytes place count (at + wide) (left - 1)
+  run-more some h =
+      walk-more (λ k. replicate k f) wide bytes place count (f ∷ []) (λ k. refl) one at left w some (at + wide)
+      (ap (λ k. at + k) (sym sized) ∙ one-fits bytes f at h) (omega arith)
+
+  pub run-here : 0 < left → fits f bytes at ≡ false → 0 < wide → at ≡ fault (replicate count f) bytes place
+  run-here some h wider = walk-here (λ k. replicate k f) wide bytes place count (f ∷ []) (λ k. refl) one at left w some at (one-out bytes f at h) (omega arith)
+
+  pub run-end : left ≡ 0 → at ≡ fault (replicate count f) bytes place
+  run-end none = walk-end (λ k. replicate k f) wide bytes place count at left refl w none
