@@ -1,11 +1,8 @@
 // Whether bytes are a sound record: 01's "Order for a record" without a list to fill. A record is visited once and never copied.
 ghost use mathlib.Core.Path.{_≡_};
-ghost use mathlib.Core.Bool.{_&&_};
 ghost use mathlib.Core.List.{[]};
-ghost use lib.IntN.{pos};
 ghost use Rattle.endian.specs.Numbers.{littleAt};
 ghost use Rattle.refusal.specs.Tests.{first};
-ghost use Rattle.record.specs.Ranges.{variables, rows, within};
 ghost use Rattle.record.specs.Readers.{loop-reader, certificate-reader};
 ghost use Rattle.checking.specs.Checks.{refusal, framing, framed, Framed, ended, checks};
 
@@ -95,17 +92,11 @@ fn loop_record(bytes: &[u8]) -> Checked
     ends(faults::rows_fault(bytes, 10, n, m), end, 1, n, m, 0)
 }
 
-fn arguments_fit(n: usize, m: usize) -> bool
-    ensures { λ r. ⌜ r ≡ (within variables (pos n) && within rows (pos m)) ⌝ }
-{
-    faults::variables_fit(n) && faults::rows_fit(m)
-}
-
 fn ranking_record(bytes: &[u8], n: usize, m: usize) -> Checked
     requires { ⌜ Framed (now bytes) ⌝ ∗ ⌜ littleAt 2 (now bytes) 4 ≡ 2 ⌝ }
     ensures { λ r. ⌜ r ≡ checks (certificate-reader (now (bytes .entry)) n m []) ⌝ }
 {
-    if !arguments_fit(n, m) {
+    if !faults::arguments_fit(n, m) {
         return refused(5, 0);
     }
     let end = bytes.len();
@@ -119,7 +110,7 @@ fn exclusion_record(bytes: &[u8], n: usize, m: usize) -> Checked
     requires { ⌜ Framed (now bytes) ⌝ ∗ ⌜ littleAt 2 (now bytes) 4 ≡ 3 ⌝ }
     ensures { λ r. ⌜ r ≡ checks (certificate-reader (now (bytes .entry)) n m []) ⌝ }
 {
-    if !arguments_fit(n, m) {
+    if !faults::arguments_fit(n, m) {
         return refused(5, 0);
     }
     let end = bytes.len();
@@ -133,7 +124,7 @@ fn lasso_record(bytes: &[u8], n: usize, m: usize) -> Checked
     requires { ⌜ Framed (now bytes) ⌝ ∗ ⌜ littleAt 2 (now bytes) 4 ≡ 4 ⌝ }
     ensures { λ r. ⌜ r ≡ checks (certificate-reader (now (bytes .entry)) n m []) ⌝ }
 {
-    if !arguments_fit(n, m) {
+    if !faults::arguments_fit(n, m) {
         return refused(5, 0);
     }
     let end = bytes.len();

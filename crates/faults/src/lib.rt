@@ -32,6 +32,13 @@ pub fn rows_fit(m: usize) -> bool
     between(m, 0, 64)
 }
 
+// n and m go with a certificate.
+pub fn arguments_fit(n: usize, m: usize) -> bool
+    ensures { λ r. ⌜ r ≡ (within variables (pos n) && within rows (pos m)) ⌝ }
+{
+    variables_fit(n) && rows_fit(m)
+}
+
 fn entry_fits(bytes: &[u8], place: usize) -> bool
     requires { ⌜ place + 2 ≤ length (now bytes) ⌝ }
     ensures { λ r. ⌜ r ≡ fits entry (now (bytes .entry)) place ⌝ }

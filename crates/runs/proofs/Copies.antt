@@ -16,6 +16,9 @@ module _ {X : Type 0} where
       let next : suc i + length xs ≡ i + suc (length xs) = omega arith in
       sets-append (set l i x) (suc i) xs ys ∙ ap (λ k. sets (sets (set l i x) (suc i) xs) k ys) next
 
+  pub sets-both : (l : List X) (i next : ℕ) (xs ys : List X) {then last : List X} → then ≡ sets l i xs → last ≡ sets then next ys → next ≡ i + length xs → last ≡ sets l i (xs ++ ys)
+  sets-both l i next xs ys first second from = second ∙ rw (first, from) (sym (sets-append l i xs ys))
+
   -- from the front
   pub sets-front : (l xs : List X) → length xs ≤ length l → sets l 0 xs ≡ xs ++ drop (length xs) l
   sets-front l xs h = sets-eq xs l 0 (omega arith) ∙ ap (λ k. xs ++ drop k l) (zero-add (length xs))

@@ -58,6 +58,15 @@ before-some (f ∷ fs) (z ∷ zs) h =
     (λ e. rw (before-next f fs z zs e) (omega (arith, before-some fs zs (rw e at h))))
     (λ e. rw (before-here f fs z zs e) (omega (arith, width-some (f .form))))
 
+pub before-within : (fs : List Field) (zs : List ℤ) → before-fault fs zs ≤ widths fs
+unfolding before-fault widths
+before-within [] zs = omega arith
+before-within (f ∷ fs) [] = omega arith
+before-within (f ∷ fs) (z ∷ zs) =
+    either (within (f .range) z)
+    (λ e. rw (before-next f fs z zs e) (omega (arith, before-within fs zs)))
+    (λ e. rw (before-here f fs z zs e) (omega arith))
+
 -- fields in two parts: the second speaks only where the first is in range
 pub before-pass : (fs gs : List Field) (zs : List ℤ) → before-fault fs zs ≡ widths fs
     → before-fault (fs ++ gs) zs ≡ widths fs + before-fault gs (drop (length fs) zs)
@@ -138,10 +147,7 @@ module _ (bytes : List ℕ) where
 
   pub fault-within : (fs : List Field) (place : ℕ) → fault fs bytes place ≤ place + widths fs
   unfolding fault
-  fault-within fs place =
-      either (in-range fs (values fs (drop place bytes)))
-      (λ e. omega (arith, fault-all fs place e))
-      (λ e. omega (arith, before-some fs (values fs (drop place bytes)) e))
+  fault-within fs place = omega (arith, before-within fs (values fs (drop place bytes)))
 
   -- fields in two parts
   module _ (fs gs : List Field) (place : ℕ) where

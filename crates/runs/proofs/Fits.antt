@@ -6,9 +6,9 @@ use mathlib.Core.List.{List}
 use native.Mathlib.Decide.{decLe, decLt}
 use native.Mathlib.Nat.{mod-eq-of-lt, add-mod-right}
 use native.Mathlib.Omega.{arith}
-use lib.Dec.{leb}
-use lib.IntN.{ℤ, pos, negsuc, negℤ}
-use lib.Signed.{leZ}
+use lib.Dec.{T, leb}
+use lib.IntN.{ℤ, pos, negsuc, natAbs, negℤ}
+use lib.Signed.{leZ, nonNeg}
 use borrow.Author.Tests.{le-leb, lt-leb, leb-true}
 use Rattle.endian.specs.Numbers.{littleAt, signed}
 use Rattle.endian.proofs.Laws.{signed-low, signed-high}
@@ -37,19 +37,19 @@ unfolding within either-way
 within-either half less x small stored =
     elim (decLt x half) [
       | yes low ↦
-          let here : x + suc less < 2 * half = omega arith in
-          rw (signed-low half x low, mod-eq-of-lt here) (leb-same (x + suc less) (2 * suc less) x (suc less) (λ h. omega arith) (λ h. omega arith))
+        let here : x + suc less < 2 * half = omega arith in
+        rw (signed-low half x low, mod-eq-of-lt here) (leb-same (x + suc less) (2 * suc less) x (suc less) (λ h. omega arith) (λ h. omega arith))
       | no high ↦
-          let above : half ≤ x = omega arith in
-          rw (signed-high half x above stored)
-          (elim (decLt (x + suc less) (2 * half)) [
-            | yes short ↦ rw (mod-eq-of-lt short) (leb-same (x + suc less) (2 * suc less) (2 * half - suc x) less (λ h. omega arith) (λ h. omega arith) ∙ and-true (leb (2 * half - suc x) less))
-            | no long ↦
-                let past : x + suc less ≡ (x + suc less - 2 * half) + 2 * half = omega arith in
-                let here : x + suc less - 2 * half < 2 * half = omega arith in
-                rw (past, add-mod-right, mod-eq-of-lt here)
-                (leb-same (x + suc less - 2 * half) (2 * suc less) (2 * half - suc x) less (λ h. omega arith) (λ h. omega arith) ∙ and-true (leb (2 * half - suc x) less))
-          ])
+        let above : half ≤ x = omega arith in
+        rw (signed-high half x above stored)
+        (elim (decLt (x + suc less) (2 * half)) [
+          | yes short ↦ rw (mod-eq-of-lt short) (leb-same (x + suc less) (2 * suc less) (2 * half - suc x) less (λ h. omega arith) (λ h. omega arith) ∙ and-true (leb (2 * half - suc x) less))
+          | no long ↦
+            let past : x + suc less ≡ (x + suc less - 2 * half) + 2 * half = omega arith in
+            let here : x + suc less - 2 * half < 2 * half = omega arith in
+            rw (past, add-mod-right, mod-eq-of-lt here)
+            (leb-same (x + suc less - 2 * half) (2 * suc less) (2 * half - suc x) less (λ h. omega arith) (λ h. omega arith) ∙ and-true (leb (2 * half - suc x) less))
+        ])
     ]
 
 -- ---- what the code tests of the number x that is stored at a place
@@ -89,3 +89,9 @@ pub arguments-most : (n m : ℕ) → (within variables (pos n) && within rows (p
 arguments-most n m h =
     let both = both-true (within variables (pos n)) (within rows (pos m)) h in
     (variables-most n (both .0), rows-most m (both .1))
+
+-- a value that is a count of rows
+pub rows-cast : (z : ℤ) → within rows z ≡ true → T (nonNeg z) × (natAbs z ≤ 64)
+unfolding within _to_ rows
+rows-cast (pos k) h = (tt, rows-most k h)
+rows-cast (negsuc k) h = let wrong : _≡_ {A = ℕ} 0 1 = cc in absurd (omega arith)

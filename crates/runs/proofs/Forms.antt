@@ -34,9 +34,15 @@ pub values-run : (form : Form) (f : Field) (count : ℕ) (bytes : List ℕ) → 
 values-run form f count bytes h = values-formed form (replicate count f) count bytes (formed-replicate form f count h) (length-replicate count f)
 
 -- a lasso's weights
-pub weights-numbers : (ms m : ℕ) (bytes : List ℕ) → numbers u16 (ms + 3 * m + 5) bytes ≡ values (weights ms ++ weights (3 * m + 3)) bytes
+pub weights-formed : (ms m : ℕ) → Formed u16 (weights ms ++ weights (3 * m + 3))
 unfolding weights scale multiplier
-weights-numbers ms m bytes =
+weights-formed ms m =
     let some : (count : ℕ) → Formed u16 (weights count) = λ count. (refl, formed-replicate u16 multiplier count refl) in
-    values-formed u16 (weights ms ++ weights (3 * m + 3)) (ms + 3 * m + 5) bytes (formed-append u16 (weights ms) (weights (3 * m + 3)) (some ms) (some (3 * m + 3)))
-    (rw length-append (omega (arith, length-replicate ms multiplier, length-replicate (3 * m + 3) multiplier)))
+    formed-append u16 (weights ms) (weights (3 * m + 3)) (some ms) (some (3 * m + 3))
+
+pub weights-count : (ms m : ℕ) → length (weights ms ++ weights (3 * m + 3)) ≡ ms + 3 * m + 5
+unfolding weights
+weights-count ms m = rw length-append (omega (arith, length-replicate ms multiplier, length-replicate (3 * m + 3) multiplier))
+
+pub weights-numbers : (ms m : ℕ) (bytes : List ℕ) → numbers u16 (ms + 3 * m + 5) bytes ≡ values (weights ms ++ weights (3 * m + 3)) bytes
+weights-numbers ms m bytes = values-formed u16 (weights ms ++ weights (3 * m + 3)) (ms + 3 * m + 5) bytes (weights-formed ms m) (weights-count ms m)

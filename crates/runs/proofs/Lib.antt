@@ -6,3 +6,5 @@ pub mod ByKind
 pub mod Copies
 pub mod Forms
 pub mod Readings
+pub mod ListFaults
+pub mod Stores

@@ -52,6 +52,10 @@ pub length-linear : (count : ℕ) → length (linear count) ≡ count + 1
 unfolding linear
 length-linear count = rw (length-append, length-replicate)
 
+pub length-weights : (count : ℕ) → length (weights count) ≡ 1 + count
+unfolding weights
+length-weights count = rw length-replicate (omega arith)
+
 pub length-row : (n : ℕ) → length (row n) ≡ 2 * n + 1
 length-row n = ap length (row-is n) ∙ length-linear (2 * n)
 

@@ -1,11 +1,11 @@
 -- A body is a handful of runs of equal fields. Here: whether a field at a place of bytes is in range, where fields have their first
 -- number out of range, what numbers a run has, and how many values a record has.
 use Prim.Native.Nat.{ℕ, zero, suc, _+_, _*_}
-use mathlib.Core.Bool.{Bool}
+use mathlib.Core.Bool.{Bool, true, _&&_}
 use mathlib.Core.List.{List, [], _∷_, _++_}
 use lib.IntN.{ℤ}
 use lib.ListN.{take, drop, replicate}
-use Rattle.record.specs.Fields.{Form, width, number, Field, values, before-fault}
+use Rattle.record.specs.Fields.{Form, width, number, stored, holds, Field, values, before-fault}
 use Rattle.record.specs.Layouts.{Kind, loop, ranking, exclusion, lasso, other, Counts, entry, right-side, multiplier, scale}
 use Rattle.record.specs.Ranges.{within}
 
@@ -43,3 +43,22 @@ value-count other c = 0
 unfoldable pub numbers : Form → ℕ → List ℕ → List ℤ
 numbers form zero bytes = []
 numbers form (suc count) bytes = number form (take (width form) bytes) ∷ numbers form count (drop (width form) bytes)
+
+-- ---- the same of a list of values, as a writer has it
+
+-- where fields, whose values start at an index of a list and whose first byte would stand at a place, have their first value out of range;
+-- where they end, if there is none
+unfoldable pub list-fault : List Field → List ℤ → ℕ → ℕ → ℕ
+list-fault fs zs index place = place + before-fault fs (drop index zs)
+
+-- the bytes of a run of values of a form
+unfoldable pub stores : Form → ℕ → List ℤ → List ℕ
+stores form zero zs = []
+stores form (suc count) [] = []
+stores form (suc count) (z ∷ zs) = stored form z ++ stores form count zs
+
+-- a form can hold each value of a run
+unfoldable pub all-held : Form → ℕ → List ℤ → Bool
+all-held form zero zs = true
+all-held form (suc count) [] = true
+all-held form (suc count) (z ∷ zs) = holds form z && all-held form count zs

@@ -1,8 +1,8 @@
--- `checking::arguments_fit` meets its contract. Assumes nothing.
+-- `faults::arguments_fit` meets its contract. Assumes nothing.
 use mathlib.Core.Path.{sym, _∙_}
 use borrow.Author.Needs.{needs}
-use Rattle.checking.proofs.arguments_fit.Statement.{statement}
-use Rattle.checking.proofs.arguments_fit.Tie as tie
+use Rattle.faults.proofs.arguments_fit.Statement.{statement}
+use Rattle.faults.proofs.arguments_fit.Tie as tie
 
 variables-fit-requires : tie.Need-variables-fit-requires
 variables-fit-requires c κs = search needs
