@@ -68,6 +68,7 @@ module _ (loop : Loop) (c : Lasso) where
         start-is = λ t. absurd (false≢true (sym e ∙ t));
         fall-is = λ t. absurd (false≢true (sym e ∙ t));
         rank-is = λ t. absurd (false≢true (sym e ∙ t));
+        long = λ t. absurd (false≢true (sym e ∙ t));
       }
 
   -- start and kept hold: what is left is the ranking
@@ -78,4 +79,5 @@ module _ (loop : Loop) (c : Lasso) where
         start-is = ranked .start-is;
         fall-is = ranked .fall-is;
         rank-is = ranked .rank-is;
+        long = ranked .long;
       }

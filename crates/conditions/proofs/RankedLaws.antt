@@ -76,6 +76,7 @@ module _ (loop : Loop) (c : Ranking) where
         start-is = λ t. absurd (false≢true (sym e ∙ t));
         fall-is = λ t. absurd (false≢true (sym e ∙ t));
         rank-is = λ t. absurd (false≢true (sym e ∙ t));
+        long = λ t. absurd (false≢true (sym e ∙ t));
       }
 
   -- all columns hold: what is left is the fourth condition
@@ -88,6 +89,7 @@ module _ (loop : Loop) (c : Ranking) where
         start-is = shown .start-is;
         fall-is = shown .fall-is;
         rank-is = λ t. rw (shown .rank-is t) entries-are;
+        long = λ t. rw (shown .rank-is t) (s .long);
       }
     where
       entries-are : take (loop .variables) stored ≡ tabulate (loop .variables) (λ j. sum (c .Z) (A′ j) (loop .rows))

@@ -5,7 +5,7 @@ use mathlib.Core.Bool.{Bool, true, false}
 use lib.IntN.{ℤ, pos, negℤ, _+ℤ_, _*ℤ_}
 use lib.Signed.{_≤ℤ_, _<ℤ_}
 use mathlib.Core.List.{List}
-use lib.ListN.{getD, take}
+use lib.ListN.{length, getD, take}
 use Rattle.theory.specs.Loops.{A, A′, b, Loop, Meets}
 use Rattle.theory.specs.Exclusions.{Exclusion, Stays}
 use Rattle.theory.specs.Lassos.{Lasso, LassoHolds, longer}
@@ -49,6 +49,7 @@ pub record RankedBy (r : Ranked) (loop : Loop) (c : Ranking) : Type 0 where
   pub start-is : r .holds ≡ true → r .start ≡ start loop c
   pub fall-is : r .holds ≡ true → r .fall ≡ fall loop c
   pub rank-is : r .holds ≡ true → take (loop .variables) (r .rank) ≡ rank loop c
+  pub long : r .holds ≡ true → length (r .rank) ≡ 16
 
 -- ---- exclusions: the two conditions at one row
 
@@ -81,3 +82,4 @@ pub record LassoBy (r : Ranked) (loop : Loop) (c : Lasso) : Type 0 where
   pub start-is : r .holds ≡ true → r .start ≡ start (longer loop c) (c .ranking)
   pub fall-is : r .holds ≡ true → r .fall ≡ fall (longer loop c) (c .ranking)
   pub rank-is : r .holds ≡ true → take (loop .variables) (r .rank) ≡ rank (longer loop c) (c .ranking)
+  pub long : r .holds ≡ true → length (r .rank) ≡ 16

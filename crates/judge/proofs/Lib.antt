@@ -1,1 +1,5 @@
 pub mod Held
+pub mod Puts
+pub mod Sizes
+pub mod Ways
+pub mod ByKind

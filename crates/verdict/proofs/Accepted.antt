@@ -93,14 +93,14 @@ accepts-agrees j = (
     number-is (refusal a k p) o = refl
 
 -- room for the rank, which kinds 2 and 4 need
-room-there : (j : Judging) → has-rank (kind-of (j .records)) ≡ true → (first rank-room j ≡ done) ↔ (variables-of (j .records) ≤ j .room)
+pub room-there : (j : Judging) → has-rank (kind-of (j .records)) ≡ true → (first rank-room j ≡ done) ↔ (variables-of (j .records) ≤ j .room)
 unfolding rank-room
 room-there j e = (
   λ h. leb-true _ _ (rw e at (done-passes rank-room j h .0)),
   λ h. passes-done rank-room j (rw e (le-leb _ _ h), tt),
 )
 
-no-room-needed : (j : Judging) → has-rank (kind-of (j .records)) ≡ false → first rank-room j ≡ done
+pub no-room-needed : (j : Judging) → has-rank (kind-of (j .records)) ≡ false → first rank-room j ≡ done
 unfolding rank-room
 no-room-needed j e = passes-done rank-room j (rw e, tt)
 

@@ -1,0 +1,104 @@
+-- What sound records give the conditions' code: their kinds, their counts within the limits, and that every part lies within the bytes.
+use mathlib.Core.Path.{_≡_, refl, sym, ap, _∙_}
+use Prim.Native.Nat.{ℕ, _+_, _*_, _≤_}
+use mathlib.Core.Bool.{Bool, true, false}
+use mathlib.Core.List.{List}
+use native.Mathlib.Omega.{arith}
+use lib.ListN.{length}
+use Rattle.record.specs.Layouts.{Kind, loop, ranking, exclusion, lasso, other, is-loop, is-certificate, lengthOf}
+use Rattle.record.specs.Readers.{Reader, kind, counts-read, sound, stated-length}
+use Rattle.record.proofs.ReadThenWrite.{Sound, sound-says, arguments-read}
+use Rattle.refusal.specs.Tests.{done, first}
+use Rattle.refusal.proofs.TestLaws.{done-passes}
+use Rattle.checking.proofs.Answers.{counts-small}
+use Rattle.columns.specs.Places.{RowsIn, MultipliersIn}
+use Rattle.conditions.specs.Held.{LassoIn, Y-place}
+use Rattle.verdict.specs.Pairs.{loop-record, certificate-record}
+use Rattle.judge.specs.Told.{LoopSound, CertificateSound}
+
+pub says : (r : Reader) → first sound r ≡ done → Sound r
+says r h = sound-says r (done-passes sound r h)
+
+-- ---- the loop
+
+loop-only : (k : Kind) → is-loop k ≡ true → k ≡ loop
+unfolding is-loop
+loop-only loop h = refl
+loop-only ranking h = cc
+loop-only exclusion h = cc
+loop-only lasso h = cc
+loop-only other h = cc
+
+module _ (rows : List ℕ) (n m : ℕ) (l : LoopSound rows n m) where
+  loop-says : Sound (loop-record rows)
+  loop-says = says (loop-record rows) (l .told)
+
+  pub loop-kind : kind (loop-record rows) ≡ loop
+  unfolding loop-record
+  loop-kind = loop-only (kind (loop-record rows)) (loop-says .wanted)
+
+  pub n-few : n ≤ 16
+  n-few = omega (arith, l .n-is, counts-small (loop-record rows) loop-says .0)
+
+  pub m-few : m ≤ 64
+  m-few = omega (arith, l .m-is, counts-small (loop-record rows) loop-says .1)
+
+  loop-long : length rows ≡ 10 + m * (4 * n + 4)
+  unfolding loop-record lengthOf
+  loop-long =
+      let formula : stated-length (loop-record rows) ≡ 6 + m * (4 * n + 4) = rw (loop-kind, ← l .n-is, ← l .m-is) at (loop-says .formula) in
+      omega (arith, loop-says .whole, formula)
+
+  pub rows-in : RowsIn rows 10 n m
+  rows-in = record { inside = omega (arith, loop-long); few = omega (arith, m-few); narrow = omega (arith, n-few) }
+
+  -- ---- the certificate
+
+  module _ (wants : Kind → Bool) (certificate : List ℕ) (k : Kind) (c : CertificateSound wants rows certificate k) (no-loop : is-loop k ≡ false) where
+    abbrev record-of : Reader
+    record-of = certificate-record wants (loop-record rows) certificate
+
+    certificate-says : Sound record-of
+    certificate-says = says record-of (c .told)
+
+    -- its counts are the loop's
+    pub counts-are : (counts-read record-of .n ≡ n) × (counts-read record-of .m ≡ m)
+    unfolding certificate-record
+    counts-are =
+        let same = arguments-read record-of (rw (c .kind-is) no-loop) in
+        (same .0 ∙ sym (l .n-is), same .1 ∙ sym (l .m-is))
+
+    pub ms-few : counts-read record-of .ms ≤ 64
+    ms-few = counts-small record-of certificate-says .2
+
+    -- L by its formula
+    certificate-long : length certificate ≡ 4 + lengthOf k (counts-read record-of)
+    unfolding certificate-record
+    certificate-long =
+        let formula : stated-length record-of ≡ lengthOf k (counts-read record-of) = rw (c .kind-is) at (certificate-says .formula) in
+        omega (arith, certificate-says .whole, formula)
+
+pub ranking-long : (rows : List ℕ) (n m : ℕ) (l : LoopSound rows n m) (wants : Kind → Bool) (certificate : List ℕ) → CertificateSound wants rows certificate ranking → MultipliersIn certificate (6 + 2 * m) m
+unfolding is-loop lengthOf
+ranking-long rows n m l wants certificate c =
+    let counts = counts-are rows n m l wants certificate ranking c refl in
+    omega (arith, rw (counts .1) at (certificate-long rows n m l wants certificate ranking c refl))
+
+pub exclusion-long : (rows : List ℕ) (n m : ℕ) (l : LoopSound rows n m) (wants : Kind → Bool) (certificate : List ℕ) → CertificateSound wants rows certificate exclusion → 8 + 12 * n ≤ length certificate
+unfolding is-loop lengthOf
+exclusion-long rows n m l wants certificate c =
+    let counts = counts-are rows n m l wants certificate exclusion c refl in
+    omega (arith, rw (counts .0) at (certificate-long rows n m l wants certificate exclusion c refl))
+
+pub lasso-long : (rows : List ℕ) (n m ms : ℕ) (l : LoopSound rows n m) (wants : Kind → Bool) (certificate : List ℕ) → CertificateSound wants rows certificate lasso
+    → ms ≡ counts-read (certificate-record wants (loop-record rows) certificate) .ms → LassoIn certificate n m ms
+unfolding is-loop lengthOf
+lasso-long rows n m ms l wants certificate c ms-is =
+    let counts = counts-are rows n m l wants certificate lasso c refl in
+    let long = rw (counts .0, counts .1, ← ms-is) at (certificate-long rows n m l wants certificate lasso c refl) in
+    record {
+      n-few = n-few rows n m l;
+      m-few = m-few rows n m l;
+      ms-few = omega (arith, ms-is, ms-few rows n m l wants certificate lasso c refl);
+      inside = omega (arith, long);
+    }

@@ -1,0 +1,58 @@
+-- The ways through judging, one for each return: what is told of the records, and the verdict and the rank list that the definition then has.
+use mathlib.Core.Path.{_≡_, refl, sym, ap, _∙_}
+use Prim.Native.Nat.{ℕ, _≤_, _<_}
+use mathlib.Core.Bool.{Bool, true, false}
+use mathlib.Core.List.{List, _++_}
+use native.Mathlib.Omega.{arith}
+use lib.IntN.{ℤ}
+use lib.ListN.{length, drop}
+use borrow.Author.Tests.{lt-leb}
+use Rattle.record.specs.Layouts.{Kind, ranking, exclusion, lasso, is-certificate}
+use Rattle.record.specs.Readers.{sound}
+use Rattle.refusal.specs.Tests.{Told, done, refused, first}
+use Rattle.refusal.proofs.TestLaws.{passes-done, failed}
+use Rattle.verdict.specs.Judging.{Judging, rank-room, judging, judges, ranks, rank-after, judge-of}
+use Rattle.verdict.specs.Pairs.{Pair, loop-record, certificate-record, kind-of, variables-of, folded, conditions, has-rank}
+use Rattle.verdict.specs.Stages.{Said, agreed, refusal, said, verdict-of}
+use Rattle.verdict.proofs.StageLaws.{stage-done, stage-refused}
+use Rattle.judge.specs.Told.{refusal-of}
+
+-- a refusal that is said: its verdict, and the list as it was
+pub refused-so : (j : Judging) (lent : List ℤ) (about number place : ℕ) → said judging j ≡ refusal about number place → (refusal-of about number place ≡ judges j) × (lent ≡ rank-after j lent)
+unfolding judges rank-after verdict-of ranks
+refused-so j lent about number place h = (rw h, rw h)
+
+-- a condition that fails is told as 8
+folded-refused : (t : Told) → (folded t ≡ done → ⊥) → folded t ≡ refused 8 0
+unfolding folded
+folded-refused done h = absurd (h refl)
+folded-refused (refused k p) h = refl
+
+pub told-eight : (p : Pair) → (conditions p ≡ done → ⊥) → conditions p ≡ refused 8 0
+unfolding conditions
+told-eight p h = folded-refused _ h
+
+module _ (j : Judging) where
+  pub at-loop : (k p : ℕ) → first sound (j .records .loop-is) ≡ refused k p → said judging j ≡ refusal 1 k p
+  unfolding judging
+  at-loop k p h = stage-refused _ _ _ j k p h
+
+  module _ (loop-sound : first sound (j .records .loop-is) ≡ done) where
+    pub at-certificate : (k p : ℕ) → first sound (j .records .certificate-is) ≡ refused k p → said judging j ≡ refusal 2 k p
+    unfolding judging
+    at-certificate k p h = stage-done _ _ _ j loop-sound ∙ stage-refused _ _ _ j k p h
+
+    module _ (certificate-sound : first sound (j .records .certificate-is) ≡ done) where
+      -- a rank list that is too short
+      pub at-room : has-rank (kind-of (j .records)) ≡ true → j .room < variables-of (j .records) → said judging j ≡ refusal 0 7 (variables-of (j .records))
+      unfolding judging rank-room
+      at-room ranked short =
+          stage-done _ _ _ j loop-sound ∙ stage-done _ _ _ j certificate-sound ∙
+          stage-refused _ _ _ j 7 (variables-of (j .records)) (failed 7 _ _ _ j (rw ranked (lt-leb _ _ short)))
+
+      -- a condition that fails
+      pub at-conditions : first rank-room j ≡ done → (conditions (j .records) ≡ done → ⊥) → said judging j ≡ refusal 2 8 0
+      unfolding judging
+      at-conditions room fails =
+          stage-done _ _ _ j loop-sound ∙ stage-done _ _ _ j certificate-sound ∙ stage-done _ _ _ j room ∙
+          stage-refused _ _ _ j 8 0 (told-eight (j .records) fails)
