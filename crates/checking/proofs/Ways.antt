@@ -173,12 +173,12 @@ module _ (r : Reader) (f : Framed (r .bytes)) where
             values-told at told =
                 elim (decLt at (length (r .bytes))) [
                   | yes early ↦
-                    let out = not-all-fit (r .bytes) (fields r) (list-start r) (omega (arith, end)) in
-                    rw (lt-ltb at (length (r .bytes)) early, told) (says r (past-length ∙ failed _ _ _ _ r out))
+                      let out = not-all-fit (r .bytes) (fields r) (list-start r) (omega (arith, end)) in
+                      rw (lt-ltb at (length (r .bytes)) early, told) (says r (past-length ∙ failed _ _ _ _ r out))
                   | no late ↦
-                    let all = all-fit (r .bytes) (fields r) (list-start r) (omega (arith, end, fault-within (r .bytes) (fields r) (list-start r))) in
-                    let l : length (r .bytes) ≤ at = omega arith in
-                    rw (le-ltb at (length (r .bytes)) l) (ap (λ t. checked t r) (sym (past-length ∙ passed _ _ _ _ r all ∙ passes-done [] r tt)))
+                      let all = all-fit (r .bytes) (fields r) (list-start r) (omega (arith, end, fault-within (r .bytes) (fields r) (list-start r))) in
+                      let l : length (r .bytes) ≤ at = omega arith in
+                      rw (le-ltb at (length (r .bytes)) l) (ap (λ t. checked t r) (sym (past-length ∙ passed _ _ _ _ r all ∙ passes-done [] r tt)))
                 ]
 
 -- ---- counts in the bytes

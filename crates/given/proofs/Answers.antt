@@ -47,7 +47,7 @@ module _ (w : Writer) (v : Given) (is : v ≡ settled w) where
       let all = done-passes settling w told in
       let small = counts-small w (passes-done counting w (append-passes counting (drop 4 settling) w all .0)) in
       let counts-are : record { n = w .n; m = w .m; ms = v .ms } ≡ counts-given w =
-          ap (λ (x : Given). record { n = w .n; m = w .m; ms = x .ms }) (is ∙ ap (λ t. given t w) told) in
+      ap (λ (x : Given). record { n = w .n; m = w .m; ms = x .ms }) (is ∙ ap (λ t. given t w) told) in
       record {
         known = all .0;
         variables = small .0;

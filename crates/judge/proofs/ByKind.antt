@@ -26,10 +26,6 @@ use Rattle.judge.proofs.Held.{loop-is, ranking-is, exclusion-is, lasso-
 use Rattle.judge.proofs.Sizes.{loop-kind, counts-are}
 use Rattle.judge.proofs.Ways.{refused-so, at-room, at-conditions}
 
--- a verdict and the list afterwards are judging's
-abbrev pub Judged : List ℕ → List ℕ → List ℤ → Verdict → List ℤ → Type 0
-Judged rows certificate lent verdict after = (verdict ≡ judges (judge-of rows certificate lent)) × (after ≡ rank-after (judge-of rows certificate lent) lent)
-
 -- the loop that a sound loop record holds
 pub loop-of : (rows : List ℕ) (n m : ℕ) → LoopSound rows n m → loop-in (loop-record rows) ≡ loop-held rows n m
 unfolding loop-record
@@ -92,12 +88,13 @@ module _ (rows : List ℕ) (n m : ℕ) (l : LoopSound rows n m) (certificate : L
     ranking-accepted e =
         let told = kind-told ranking c in
         let zero-told =
-          accepted-exactly-when-ranking j told .1
-          (record { both-sound = both ranking c; room = ranking-room; holds = rw (loop-told, ranking-told) (by .decided .yes-holds e) })
+        accepted-exactly-when-ranking j told .1
+        (record { both-sound = both ranking c; room = ranking-room; holds = rw (loop-told, ranking-told) (by .decided .yes-holds e) })
         in
-        let answers = ranking-answers j lent told zero-told in
-        (rw (by .start-is e, by .fall-is e) (sym (rw (loop-told, ranking-told) at (answers .verdict-is))),
-        rw (by .rank-is e) (sym (rw (loop-told, ranking-told, variables-told) at (answers .list-is))))
+        let answers = ranking-answers j lent told zero-told in (
+          rw (by .start-is e, by .fall-is e) (sym (rw (loop-told, ranking-told) at (answers .verdict-is))),
+          rw (by .rank-is e) (sym (rw (loop-told, ranking-told, variables-told) at (answers .list-is))),
+        )
 
   -- ---- kind 3
 
@@ -155,9 +152,10 @@ module _ (rows : List ℕ) (n m : ℕ) (l : LoopSound rows n m) (certificate : L
     lasso-accepted e =
         let told = kind-told lasso c in
         let zero-told =
-          accepted-exactly-when-lasso j told .1
-          (record { both-sound = both lasso c; room = lasso-room; holds = rw (loop-told, lasso-told) (by .decided .yes-holds e) })
+        accepted-exactly-when-lasso j told .1
+        (record { both-sound = both lasso c; room = lasso-room; holds = rw (loop-told, lasso-told) (by .decided .yes-holds e) })
         in
-        let answers = lasso-answers j lent told zero-told in
-        (rw (by .start-is e, by .fall-is e) (sym (rw (loop-told, lasso-told) at (answers .verdict-is))),
-        rw (by .rank-is e) (sym (rw (loop-told, lasso-told, variables-told) at (answers .list-is))))
+        let answers = lasso-answers j lent told zero-told in (
+          rw (by .start-is e, by .fall-is e) (sym (rw (loop-told, lasso-told) at (answers .verdict-is))),
+          rw (by .rank-is e) (sym (rw (loop-told, lasso-told, variables-told) at (answers .list-is))),
+        )

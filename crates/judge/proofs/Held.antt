@@ -36,11 +36,12 @@ run-held f zero gs bytes place = (refl, let here : place + width (f .form) * 0 �
 run-held f (suc k) gs bytes place =
     let w = width (f .form) in
     let rest = run-held f k gs bytes (place + w) in
-    let here : place ≡ place + w * 0 = omega arith in
-    (rw (drop-drop w place bytes)
-    (ap₂ (λ (z : ℤ) (zs : List ℤ). z ∷ zs) (ap (numberAt f bytes) here)
-    (rest .0 ∙ tabulate-same k _ _ (λ i h. ap (numberAt f bytes) (next-place place w i)))),
-    rw (drop-drop w place bytes) (rest .1 ∙ ap (λ (p : ℕ). values gs (drop p bytes)) (next-place place w k)))
+    let here : place ≡ place + w * 0 = omega arith in (
+      rw (drop-drop w place bytes)
+          (ap₂ (λ (z : ℤ) (zs : List ℤ). z ∷ zs) (ap (numberAt f bytes) here)
+          (rest .0 ∙ tabulate-same k _ _ (λ i h. ap (numberAt f bytes) (next-place place w i)))),
+      rw (drop-drop w place bytes) (rest .1 ∙ ap (λ (p : ℕ). values gs (drop p bytes)) (next-place place w k)),
+    )
   where
     next-place : (place w i : ℕ) → place + w + w * i ≡ place + w * suc i
     next-place place w i = omega arith
@@ -108,10 +109,11 @@ rows-held n (suc m) gs bytes place =
     let here : rowAt place n 0 ≡ place = omega arith in
     let length-step : suc m * (n + n + 1) ≡ n + n + 1 + m * (n + n + 1) = omega arith in
     let end : place + (4 * n + 4) + m * (4 * n + 4) ≡ place + suc m * (4 * n + 4) = omega arith in
-    rw (append-assoc (row n) (rowsOf n m) gs, here, length-step, ← drop-drop (m * (n + n + 1)) (n + n + 1) (row-list n more bytes place), row-rest n more bytes place)
-    (ap₂ (λ (r : Row) (rs : List Row). r ∷ rs) (row-is n more bytes place)
-    (rest .0 ∙ tabulate-same m _ _ (λ i h. ap (rowFrom bytes n) (next-row n place i))),
-    rest .1 ∙ ap (λ (p : ℕ). values gs (drop p bytes)) end)
+    rw (append-assoc (row n) (rowsOf n m) gs, here, length-step, ← drop-drop (m * (n + n + 1)) (n + n + 1) (row-list n more bytes place), row-rest n more bytes place) (
+      ap₂ (λ (r : Row) (rs : List Row). r ∷ rs) (row-is n more bytes place)
+          (rest .0 ∙ tabulate-same m _ _ (λ i h. ap (rowFrom bytes n) (next-row n place i))),
+      rest .1 ∙ ap (λ (p : ℕ). values gs (drop p bytes)) end,
+    )
   where
     next-row : (n place i : ℕ) → rowAt (place + (4 * n + 4)) n i ≡ rowAt place n (suc i)
     next-row n place i = omega arith

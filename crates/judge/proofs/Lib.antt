@@ -3,3 +3,4 @@ pub mod Puts
 pub mod Sizes
 pub mod Ways
 pub mod ByKind
+pub mod Entered

@@ -6,6 +6,8 @@ use mathlib.Core.List.{List}
 use Rattle.record.specs.Layouts.{Kind}
 use Rattle.record.specs.Readers.{kind, counts-read, sound}
 use Rattle.refusal.specs.Tests.{done, first}
+use lib.IntN.{ℤ}
+use Rattle.verdict.specs.Judging.{judges, rank-after, judge-of}
 use Rattle.verdict.specs.Pairs.{loop-record, certificate-record}
 use Rattle.verdict.specs.declared.Outcome.the-variants.{Nothing}
 use Rattle.verdict.specs.declared.Verdict.{Verdict}
@@ -24,3 +26,7 @@ pub record CertificateSound (wants : Kind → Bool) (rows bytes : List ℕ) (k :
 -- a refusal: the record it speaks of, number and place
 abbrev pub refusal-of : ℕ → ℕ → ℕ → Verdict
 refusal-of about number place = record { number = number; place = place; about = about; outcome = Nothing }
+
+-- a verdict and the rank list afterwards are those of judging
+abbrev pub Judged : List ℕ → List ℕ → List ℤ → Verdict → List ℤ → Type 0
+Judged rows certificate lent verdict after = (verdict ≡ judges (judge-of rows certificate lent)) × (after ≡ rank-after (judge-of rows certificate lent) lent)

@@ -17,7 +17,15 @@ pub fn between(z: i64, least: i64, most: i64) -> bool
 }
 
 // A run of equal fields of a range and a width: the values from an index on, the first of them at a place.
-fn run_fault(values: &[i64], index: usize, count: usize, least: i64, most: i64, wide: usize, place: usize) -> usize
+fn run_fault(
+    values: &[i64],
+    index: usize,
+    count: usize,
+    least: i64,
+    most: i64,
+    wide: usize,
+    place: usize,
+) -> usize
     requires { ⌜ (index + count * 1 ≤ length (now values)) × (place + count * wide ≤ 65536) × (0 < wide) ⌝ }
     ensures { λ r. ⌜ ((f : Field) → f .range ≡ record { least = least; most = most } → width (f .form) ≡ wide → r ≡ list-fault (replicate count f) (now (values .entry)) index place) ⌝ }
 {

@@ -10,7 +10,6 @@ ghost use Rattle.record.specs.Layouts.{kindOf, row-count, scale, direction, row
 ghost use Rattle.runs.specs.Runs.{numbers, linear, weights, value-count};
 ghost use Rattle.record.specs.Readers.{loop-reader, certificate-reader, reads, fills};
 ghost use Rattle.reading.specs.Unpacks.{refusal, list-of, Sized, unpacked, unpacks};
-
 use checking::Checked;
 use record::Reading;
 
@@ -103,7 +102,13 @@ fn read_lasso(bytes: &[u8], n: usize, m: usize, ms: usize, values: &mut [i64])
     read_u16s(bytes, 6, 1, values, 0);
     read_rows(bytes, 8, n, ms, values, 1);
     read_linear(bytes, place, n, values, index);
-    read_u16s(bytes, place + (2 * n + 4), ms + 3 * m + 5, values, index + (n + 1));
+    read_u16s(
+        bytes,
+        place + (2 * n + 4),
+        ms + 3 * m + 5,
+        values,
+        index + (n + 1),
+    );
 }
 
 // ---- a whole list

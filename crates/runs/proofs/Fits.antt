@@ -37,19 +37,19 @@ unfolding within either-way
 within-either half less x small stored =
     elim (decLt x half) [
       | yes low ↦
-        let here : x + suc less < 2 * half = omega arith in
-        rw (signed-low half x low, mod-eq-of-lt here) (leb-same (x + suc less) (2 * suc less) x (suc less) (λ h. omega arith) (λ h. omega arith))
+          let here : x + suc less < 2 * half = omega arith in
+          rw (signed-low half x low, mod-eq-of-lt here) (leb-same (x + suc less) (2 * suc less) x (suc less) (λ h. omega arith) (λ h. omega arith))
       | no high ↦
-        let above : half ≤ x = omega arith in
-        rw (signed-high half x above stored)
-        (elim (decLt (x + suc less) (2 * half)) [
-          | yes short ↦ rw (mod-eq-of-lt short) (leb-same (x + suc less) (2 * suc less) (2 * half - suc x) less (λ h. omega arith) (λ h. omega arith) ∙ and-true (leb (2 * half - suc x) less))
-          | no long ↦
-            let past : x + suc less ≡ (x + suc less - 2 * half) + 2 * half = omega arith in
-            let here : x + suc less - 2 * half < 2 * half = omega arith in
-            rw (past, add-mod-right, mod-eq-of-lt here)
-            (leb-same (x + suc less - 2 * half) (2 * suc less) (2 * half - suc x) less (λ h. omega arith) (λ h. omega arith) ∙ and-true (leb (2 * half - suc x) less))
-        ])
+          let above : half ≤ x = omega arith in
+          rw (signed-high half x above stored)
+          (elim (decLt (x + suc less) (2 * half)) [
+            | yes short ↦ rw (mod-eq-of-lt short) (leb-same (x + suc less) (2 * suc less) (2 * half - suc x) less (λ h. omega arith) (λ h. omega arith) ∙ and-true (leb (2 * half - suc x) less))
+            | no long ↦
+                let past : x + suc less ≡ (x + suc less - 2 * half) + 2 * half = omega arith in
+                let here : x + suc less - 2 * half < 2 * half = omega arith in
+                rw (past, add-mod-right, mod-eq-of-lt here)
+                (leb-same (x + suc less - 2 * half) (2 * suc less) (2 * half - suc x) less (λ h. omega arith) (λ h. omega arith) ∙ and-true (leb (2 * half - suc x) less))
+          ])
     ]
 
 -- ---- what the code tests of the number x that is stored at a place

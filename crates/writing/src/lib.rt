@@ -12,7 +12,6 @@ ghost use Rattle.record.specs.Layouts.{kindOf, row-count, scale, direction, row
 ghost use Rattle.record.specs.Writers.{writer, writes, room-after};
 ghost use Rattle.runs.specs.Runs.{linear, weights, stores, all-held};
 ghost use Rattle.writing.specs.Bodies.{body-bytes, Fitting, Ready, refusal};
-
 use record::Writing;
 
 // ---- runs of values of one form, from an index of the list on, into the body from a place on
@@ -104,7 +103,13 @@ fn write_lasso(body: &mut [u8], n: usize, m: usize, ms: usize, values: &[i64])
     write_u16s(body, 0, 1, values, 0);
     write_rows(body, 2, n, ms, values, 1);
     write_linear(body, place, n, values, index);
-    write_u16s(body, place + (2 * n + 4), ms + 3 * m + 5, values, index + (n + 1));
+    write_u16s(
+        body,
+        place + (2 * n + 4),
+        ms + 3 * m + 5,
+        values,
+        index + (n + 1),
+    );
 }
 
 // A loop's n and m, then its rows.
@@ -145,7 +150,15 @@ fn refused(number: usize, place: usize) -> Writing
 }
 
 // Length and kind, then the body in the part of the room after the kind.
-fn write_out(kind: usize, n: usize, m: usize, ms: usize, long: usize, values: &[i64], room: &mut [u8])
+fn write_out(
+    kind: usize,
+    n: usize,
+    m: usize,
+    ms: usize,
+    long: usize,
+    values: &[i64],
+    room: &mut [u8],
+)
     requires { ⌜ Ready kind (record { n = n; m = m; ms = ms }) long (now values) (now room) ⌝ }
     ensures { λ _. ⌜ now (room .exit) ≡ sets (now (room .entry)) 0 (digits 4 long ++ (digits 2 kind ++ body-bytes kind (record { n = n; m = m; ms = ms }) (now (values .entry)))) ⌝ }
 {

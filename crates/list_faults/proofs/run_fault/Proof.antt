@@ -47,7 +47,7 @@ returns c =
     let a = s .args in
     let w = c .before .before .before .before .loop in
     let out : within (record { least = a .least; most = a .most }) (getD (a .values .now) (w .i) (pos 0)) ≡ false =
-        rw (toZ-ofZ (s .fits .least), toZ-ofZ (s .fits .most), toZ-ofZ (sfits-of (c .before .before .between-arg .given))) at (sym (c .before .between .ensures) ∙ not-true _ (c .if1 .taken)) in
+    rw (toZ-ofZ (s .fits .least), toZ-ofZ (s .fits .most), toZ-ofZ (sfits-of (c .before .before .between-arg .given))) at (sym (c .before .between .ensures) ∙ not-true _ (c .if1 .taken)) in
     list-run-here (record { least = a .least; most = a .most }) (a .wide) (a .values .now) (a .index) (a .place) (a .count) (w .i) (w .at) (w .left)
     (run s _ _ _ (w .inv)) (c .before .before .before .loop-test .taken) (omega (arith, w .inv .reach-list)) (s .pre .2) out
 

@@ -91,13 +91,13 @@ returns c =
     let rest = c .before .read-u16s2 in
     let last = weights (a .ms) ++ weights (3 * a .m + 3) in
     let from-invariant =
-        read-both (linear (a .n)) last bytes place (place + (2 * a .n + 4)) index (index + (a .n + 1)) (stem .last .1 .1 .1 .1 .0) (invariant .last .1 .1 .1 .0)
-        (ap (λ k. place + k) (sym (widths-linear (a .n)))) (ap (λ k. index + k) (sym (length-linear (a .n))))
-        (invariant .ensures)
-        (rest .ensures ∙ ap (sets (invariant .last .1 .1 .1 .0) (index + (a .n + 1))) (weights-numbers (a .ms) (a .m) (drop (place + (2 * a .n + 4)) bytes))) in
+    read-both (linear (a .n)) last bytes place (place + (2 * a .n + 4)) index (index + (a .n + 1)) (stem .last .1 .1 .1 .1 .0) (invariant .last .1 .1 .1 .0)
+    (ap (λ k. place + k) (sym (widths-linear (a .n)))) (ap (λ k. index + k) (sym (length-linear (a .n))))
+    (invariant .ensures)
+    (rest .ensures ∙ ap (sets (invariant .last .1 .1 .1 .0) (index + (a .n + 1))) (weights-numbers (a .ms) (a .m) (drop (place + (2 * a .n + 4)) bytes))) in
     let from-stem =
-        read-both (rowsOf (a .n) (a .ms)) (linear (a .n) ++ last) bytes 8 place 1 index (count .last .1 .1 .1 .0) (stem .last .1 .1 .1 .1 .0)
-        (ap (λ k. 8 + k) (sym (widths-rows (a .n) (a .ms)))) (ap (λ k. 1 + k) (sym (length-rows (a .n) (a .ms)))) (stem .ensures) from-invariant in
+    read-both (rowsOf (a .n) (a .ms)) (linear (a .n) ++ last) bytes 8 place 1 index (count .last .1 .1 .1 .0) (stem .last .1 .1 .1 .1 .0)
+    (ap (λ k. 8 + k) (sym (widths-rows (a .n) (a .ms)))) (ap (λ k. 1 + k) (sym (length-rows (a .n) (a .ms)))) (stem .ensures) from-invariant in
     read-both (row-count ∷ []) (rowsOf (a .n) (a .ms) ++ (linear (a .n) ++ last)) bytes 6 8 0 1 (a .values .now) (count .last .1 .1 .1 .0) refl refl
     (count .ensures ∙ ap (sets (a .values .now) 0) (values-run u16 row-count 1 (drop 6 bytes) refl)) from-stem
 

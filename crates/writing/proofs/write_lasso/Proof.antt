@@ -112,13 +112,13 @@ returns c =
     let invariant = c .before .before .before .before .before .before .write-linear in
     let rest = c .before .before .write-u16s2 in
     let from-invariant =
-        write-both (linear (a .n)) (weights (a .ms) ++ weights (3 * a .m + 3)) zs index (index + (a .n + 1)) (ap (λ k. index + k) (sym (length-linear (a .n)))) (omega (arith, c .before .before .before .before .before .before .before .before .before .before .before .before .before .before .before .before .before .pre .0, length-linear (a .n)))
-        place (place + (2 * a .n + 4)) (stem .last .0) (invariant .last .0) (ap (λ k. place + k) (sym (widths-linear (a .n))))
-        (invariant .ensures)
-        (rest .ensures ∙ ap (sets (invariant .last .0) (place + (2 * a .n + 4))) (bytes-formed u16 (weights (a .ms) ++ weights (3 * a .m + 3)) (a .ms + 3 * a .m + 5) (drop (index + (a .n + 1)) zs) (weights-formed (a .ms) (a .m)) (weights-count (a .ms) (a .m)))) in
+    write-both (linear (a .n)) (weights (a .ms) ++ weights (3 * a .m + 3)) zs index (index + (a .n + 1)) (ap (λ k. index + k) (sym (length-linear (a .n)))) (omega (arith, c .before .before .before .before .before .before .before .before .before .before .before .before .before .before .before .before .before .pre .0, length-linear (a .n)))
+    place (place + (2 * a .n + 4)) (stem .last .0) (invariant .last .0) (ap (λ k. place + k) (sym (widths-linear (a .n))))
+    (invariant .ensures)
+    (rest .ensures ∙ ap (sets (invariant .last .0) (place + (2 * a .n + 4))) (bytes-formed u16 (weights (a .ms) ++ weights (3 * a .m + 3)) (a .ms + 3 * a .m + 5) (drop (index + (a .n + 1)) zs) (weights-formed (a .ms) (a .m)) (weights-count (a .ms) (a .m)))) in
     let from-stem =
-        write-both (rowsOf (a .n) (a .ms)) (linear (a .n) ++ (weights (a .ms) ++ weights (3 * a .m + 3))) zs 1 index (ap (λ k. 1 + k) (sym (length-rows (a .n) (a .ms)))) (omega (arith, c .before .before .before .before .before .before .before .before .before .before .before .before .before .before .before .before .before .pre .0, length-rows (a .n) (a .ms)))
-        2 place (count .last .0) (stem .last .0) (ap (λ k. 2 + k) (sym (widths-rows (a .n) (a .ms)))) (stem .ensures) from-invariant in
+    write-both (rowsOf (a .n) (a .ms)) (linear (a .n) ++ (weights (a .ms) ++ weights (3 * a .m + 3))) zs 1 index (ap (λ k. 1 + k) (sym (length-rows (a .n) (a .ms)))) (omega (arith, c .before .before .before .before .before .before .before .before .before .before .before .before .before .before .before .before .before .pre .0, length-rows (a .n) (a .ms)))
+    2 place (count .last .0) (stem .last .0) (ap (λ k. 2 + k) (sym (widths-rows (a .n) (a .ms)))) (stem .ensures) from-invariant in
     write-both (row-count ∷ []) (rowsOf (a .n) (a .ms) ++ (linear (a .n) ++ (weights (a .ms) ++ weights (3 * a .m + 3)))) zs 0 1 refl (omega (arith, c .before .before .before .before .before .before .before .before .before .before .before .before .before .before .before .before .before .pre .0)) 0 2 (a .body .now) (count .last .0) refl
     (count .ensures ∙ ap (sets (a .body .now) 0) (bytes-run u16 row-count 1 zs refl)) from-stem
 

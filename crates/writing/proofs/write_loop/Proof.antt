@@ -32,9 +32,9 @@ returns c =
     let m-put = c .before .before .before .before .before .before .put-u162 in
     let rows = c .before .before .write-rows in
     let second =
-        sets-both (n-put .last .0) 2 4 (digits 2 (a .m)) (bytesOf (rowsOf (a .n) (a .m)) (a .values .now))
-        (m-put .ensures ∙ put-is (n-put .last .0) (digits 2 (a .m)) 2 2 (length-digits 2 (a .m)) (omega (arith, n-put .kept)))
-        (rows .ensures) (ap (λ k. 2 + k) (sym (length-digits 2 (a .m)))) in
+    sets-both (n-put .last .0) 2 4 (digits 2 (a .m)) (bytesOf (rowsOf (a .n) (a .m)) (a .values .now))
+    (m-put .ensures ∙ put-is (n-put .last .0) (digits 2 (a .m)) 2 2 (length-digits 2 (a .m)) (omega (arith, n-put .kept)))
+    (rows .ensures) (ap (λ k. 2 + k) (sym (length-digits 2 (a .m)))) in
     sets-both (a .body .now) 0 2 (digits 2 (a .n)) (digits 2 (a .m) ++ bytesOf (rowsOf (a .n) (a .m)) (a .values .now))
     (n-put .ensures ∙ put-is (a .body .now) (digits 2 (a .n)) 0 2 (length-digits 2 (a .n)) (omega arith)) second (ap (λ k. 0 + k) (sym (length-digits 2 (a .n))))
 

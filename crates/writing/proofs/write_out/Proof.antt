@@ -47,9 +47,9 @@ returns c =
     let stated = body-long (a .kind) c0 (a .values .now) (s .pre .fitting) (s .pre .known) ∙ sym (s .pre .long-is) in
     let tail = tail-sets (kind-put .last .0) 6 bytes (omega (arith, stated, s .pre .room-for, length-put .kept, kind-put .kept)) (body .ensures) in
     let second =
-        sets-both (length-put .last .0) 4 6 (digits 2 (a .kind)) bytes
-        (kind-put .ensures ∙ put-is (length-put .last .0) (digits 2 (a .kind)) 4 2 (length-digits 2 (a .kind)) (omega (arith, stated, s .pre .room-for, length-put .kept)))
-        tail (ap (λ k. 4 + k) (sym (length-digits 2 (a .kind)))) in
+    sets-both (length-put .last .0) 4 6 (digits 2 (a .kind)) bytes
+    (kind-put .ensures ∙ put-is (length-put .last .0) (digits 2 (a .kind)) 4 2 (length-digits 2 (a .kind)) (omega (arith, stated, s .pre .room-for, length-put .kept)))
+    tail (ap (λ k. 4 + k) (sym (length-digits 2 (a .kind)))) in
     sets-both (a .room .now) 0 4 (digits 4 (a .long)) (digits 2 (a .kind) ++ bytes)
     (length-put .ensures ∙ put-is (a .room .now) (digits 4 (a .long)) 0 4 (length-digits 4 (a .long)) (omega (arith, s .pre .room-for)))
     second (ap (λ k. 0 + k) (sym (length-digits 4 (a .long))))

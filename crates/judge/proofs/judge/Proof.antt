@@ -1,0 +1,57 @@
+-- `judge::judge` meets its contract: the loop is checked, then judged. Assumes nothing.
+use mathlib.Core.Path.{_≡_, refl, sym, _∙_}
+use Rattle.verdict.specs.Judging.{judge-of}
+use Rattle.judge.proofs.Entered.{loop-refused, loop-sound}
+use Rattle.judge.proofs.Ways.{refused-so, at-loop}
+use borrow.Author.Needs.{needs}
+use Rattle.judge.proofs.judge.Statement.{statement}
+use Rattle.judge.proofs.judge.Tie as tie
+use Rattle.judge.proofs.judge.Reads as reads
+use Rattle.judge.proofs.judge.Lts as lts
+use Rattle.checking.proofs.check_loop.Reads as check-loop-reads
+use Rattle.judge.proofs.judge_sound.Reads as judge-sound-reads
+use Rattle.judge.proofs.refused.Reads as refused-reads
+
+-- src/lib.rt:130:9
+check-loop-requires : tie.Need-check-loop-requires
+check-loop-requires c κs = search needs
+
+-- src/lib.rt:132:9
+refused-requires : tie.Need-refused-requires
+refused-requires c κs = search needs
+
+-- src/lib.rt:132:9
+returns : tie.Need-returns
+unfolding judge-of
+returns c =
+    let called = c .before .before .before in
+    let a = called .before .before .before .args in
+    let j = judge-of (a .rows .now) (a .certificate .now) (a .rank .now) in
+    let v = called .check-loop .result in
+    let told = refused-so j (a .rank .now) 1 (v .number) (v .place) (at-loop j _ _ (loop-refused (a .rows .now) v (called .check-loop .ensures) (c .before .if1 .taken))) in
+    (c .refused .ensures ∙ told .0, told .1)
+
+-- src/lib.rt:134:5
+judge-sound-requires : tie.Need-judge-sound-requires
+judge-sound-requires c κs =
+    let called = c .before .before .before in
+    loop-sound (called .before .before .before .args .rows .now) (called .check-loop .result) (called .check-loop .ensures) (c .before .if1 .left)
+
+-- src/lib.rt:126:1
+same-length : tie.Need-same-length
+same-length c = search needs
+
+-- src/lib.rt:126:1
+returns-2 : tie.Need-returns-2
+returns-2 c = search needs
+
+pub judge-spec : {M : Type 1} → statement M
+judge-spec =
+    tie.close
+    (tie.spec
+    check-loop-requires
+    refused-requires
+    returns
+    judge-sound-requires
+    same-length
+    returns-2)

@@ -1,0 +1,69 @@
+-- `judge::judge_exclusion` meets its contract: each return is one way through judging. Assumes nothing.
+use mathlib.Core.Path.{_≡_, refl, sym, _∙_}
+use native.Mathlib.Omega.{arith}
+use borrow.Author.Tests.{not-true, not-false}
+use Rattle.record.specs.Layouts.{is-certificate}
+use Rattle.judge.proofs.ByKind.{exclusion-refused, exclusion-accepted}
+use Rattle.judge.proofs.Sizes.{n-few, rows-in, exclusion-long}
+use borrow.Author.Needs.{needs}
+use Rattle.judge.proofs.judge_exclusion.Statement.{statement}
+use Rattle.judge.proofs.judge_exclusion.Tie as tie
+use Rattle.judge.proofs.judge_exclusion.Reads as reads
+use Rattle.judge.proofs.judge_exclusion.Lts as lts
+use Rattle.conditions.proofs.exclusion.Reads as exclusion-reads
+use Rattle.endian.proofs.u16_at.Reads as u16-at-reads
+use Rattle.judge.proofs.grade.Reads as grade-reads
+use Rattle.judge.proofs.refused.Reads as refused-reads
+
+-- src/lib.rt:66:9
+exclusion-requires : tie.Need-exclusion-requires
+exclusion-requires c κs =
+    let s = c .before .before in
+    let l = s .pre .0 in
+    (rows-in _ _ _ l, n-few _ _ _ l, exclusion-long _ _ _ l is-certificate _ (s .pre .1))
+
+-- src/lib.rt:67:9
+refused-requires : tie.Need-refused-requires
+refused-requires c κs = search needs
+
+-- src/lib.rt:67:9
+returns : tie.Need-returns
+returns c =
+    let called = c .before .before in
+    let s = called .before .before .before in
+    let a = s .args in
+    λ lent.
+    let told =
+    exclusion-refused (a .rows .now) (a .n) (a .m) (s .pre .0) (a .certificate .now) lent (s .pre .1) (called .exclusion .result) (called .exclusion .ensures)
+    (not-true (called .exclusion .result) (c .before .if1 .taken))
+    in
+    (c .refused .ensures ∙ told .0, told .1)
+
+-- src/lib.rt:73:52
+u16-at-requires : tie.Need-u16-at-requires
+u16-at-requires c κs =
+    let s = c .before .before .before .before in
+    omega (arith, exclusion-long _ _ _ (s .pre .0) is-certificate _ (s .pre .1))
+
+-- src/lib.rt:73:46
+grade-requires : tie.Need-grade-requires
+grade-requires c κs = search needs
+
+-- src/lib.rt:62:1
+returns-2 : tie.Need-returns-2
+returns-2 c =
+    let read = c .before .u16-at in
+    let called = c .before .before .before in
+    let s = called .before .before .before in
+    let a = s .args in
+    λ lent.
+    let told =
+    exclusion-accepted (a .rows .now) (a .n) (a .m) (s .pre .0) (a .certificate .now) lent (s .pre .1) (called .exclusion .result) (called .exclusion .ensures)
+    (not-false (called .exclusion .result) (c .before .before .if1 .left))
+    in
+    (rw (c .grade .ensures, read .ensures .0) (told .0), told .1)
+
+pub judge-exclusion-spec : {M : Type 1} → statement M
+judge-exclusion-spec =
+    tie.close
+    (tie.spec exclusion-requires refused-requires returns u16-at-requires grade-requires returns-2)
