@@ -3,7 +3,7 @@
 -- `loop-any-room` and `certificate-any-room` carry an answer over to a reader that has a list.
 use mathlib.Core.Path.{_≡_, refl, sym, ap, _∙_}
 use Prim.Native.Nat.{ℕ, _≤_}
-use mathlib.Core.Bool.{Bool, true, false, _&&_, _||_}
+use mathlib.Core.Bool.{true, _&&_}
 use mathlib.Core.List.{List, []}
 use native.Mathlib.Omega.{arith}
 use lib.IntN.{ℤ, pos}
@@ -19,7 +19,7 @@ use Rattle.record.specs.Readers.{Reader, stated-length, kind-number, kind, coun
 use Rattle.record.proofs.ReadThenWrite.{Sound, sound-says}
 use Rattle.runs.proofs.Fits.{variables-most, rows-most, arguments-most}
 use Rattle.checking.specs.declared.Checked.{Checked}
-use Rattle.checking.specs.Checks.{refusal, checked, checks}
+use Rattle.checking.specs.Checks.{checked, checks}
 
 module _ (r : Reader) (v : Checked) (is : v ≡ checks r) where
   number-told : (t : Told) → number-of t ≡ checked t r .number

@@ -3,24 +3,23 @@
 use mathlib.Core.Path.{_≡_, refl, sym, ap, _∙_}
 use Prim.Native.Nat.{ℕ, _+_, _*_, _≤_, _<_}
 use mathlib.Core.Bool.{Bool, true, false, _&&_, _||_}
-use mathlib.Core.List.{List, [], _∷_, _++_}
+use mathlib.Core.List.{List, [], _∷_}
 use native.Mathlib.Decide.{decLt}
 use native.Mathlib.Omega.{arith}
 use lib.IntN.{pos}
-use lib.ListN.{length, drop, replicate}
+use lib.ListN.{length, drop}
 use borrow.Author.Tests.{le-leb, lt-leb, eq-eqb, ne-eqb, lt-ltb, le-ltb, leb-true}
 use Rattle.endian.specs.Numbers.{littleAt}
 use Rattle.refusal.specs.Tests.{Told, done, refused, first, number as number-of}
-use Rattle.refusal.proofs.TestLaws.{Passes, passed, failed, passes-done, done-passes, zero-done, first-then, first-told}
+use Rattle.refusal.proofs.TestLaws.{passed, failed, passes-done, done-passes, zero-done, first-then, first-told}
 use Rattle.record.specs.Fields.{u16, Field, width, number, widths}
-use Rattle.record.specs.Layouts.{Kind, loop, ranking, exclusion, lasso, kindOf, is-loop, is-lasso, is-certificate, variable-count, row-count, multiplier, scale, direction, rowsOf, counts, layout, lengthOf, ahead, listed}
+use Rattle.record.specs.Layouts.{Kind, loop, lasso, kindOf, is-loop, is-lasso, is-certificate, variable-count, row-count, rowsOf, counts, layout, lengthOf, ahead, listed}
 use Rattle.record.specs.Ranges.{variables, rows, within}
 use Rattle.record.specs.Readers.{Reader, stated-length, kind-number, kind, counts-read, fields, list-start, count-list, list, arguments-fit, sound, loop-reader, certificate-reader}
 use Rattle.record.proofs.Lengths.{length-law}
 use Rattle.record.proofs.ReadThenWrite.{certificate-no-loop}
-use Rattle.runs.specs.Runs.{number-at, fits, fault, linear, weights}
+use Rattle.runs.specs.Runs.{number-at, fits, fault}
 use Rattle.runs.proofs.Faults.{fault-none, fault-next, fault-here, all-fit, not-all-fit, fault-within}
-use Rattle.runs.proofs.Parts.{ranking-is, exclusion-is, lasso-is}
 use Rattle.checking.specs.declared.Checked.{Checked}
 use Rattle.checking.specs.Checks.{refusal, checked, checks, framing, framed, Framed, ended}
 

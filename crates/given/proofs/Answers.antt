@@ -1,9 +1,8 @@
 -- How a writer uses the answer v of `settle`: `settled-refused` says what a number other than 0 means for 01's order, and `settled-done` and
 -- `says` what number 0 means.
 use mathlib.Core.Path.{_≡_, refl, sym, ap, _∙_}
-use Prim.Native.Nat.{ℕ, _≤_}
+use Prim.Native.Nat.{_≤_}
 use mathlib.Core.Bool.{true, _||_}
-use native.Mathlib.Omega.{arith}
 use lib.ListN.{length, drop}
 use borrow.Author.Tests.{eqb-true}
 use Rattle.refusal.specs.Tests.{Told, done, refused, first}

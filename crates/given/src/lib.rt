@@ -1,5 +1,4 @@
 // Whether a kind, counts and a list of values make a record: 01's order for a writing, up to the room.
-ghost use Prim.Native.Nat.{_≤_};
 ghost use mathlib.Core.Path.{_≡_};
 ghost use mathlib.Core.Bool.{true, false};
 ghost use mathlib.Core.List.{List, []};

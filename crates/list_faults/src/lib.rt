@@ -26,7 +26,7 @@ fn run_fault(
     wide: usize,
     place: usize,
 ) -> usize
-    requires { ⌜ (index + count * 1 ≤ length (now values)) × (place + count * wide ≤ 65536) × (0 < wide) ⌝ }
+    requires { ⌜ (index + count ≤ length (now values)) × (place + count * wide ≤ 65536) × (0 < wide) ⌝ }
     ensures { λ r. ⌜ ((f : Field) → f .range ≡ record { least = least; most = most } → width (f .form) ≡ wide → r ≡ list-fault (replicate count f) (now (values .entry)) index place) ⌝ }
 {
     let mut i = index;

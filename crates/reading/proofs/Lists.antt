@@ -4,7 +4,7 @@ use Prim.Native.Nat.{ℕ, _+_, _*_}
 use mathlib.Core.List.{List, [], _∷_, _++_}
 use lib.ListN.{drop, replicate}
 use Rattle.record.specs.Fields.{u16, width, widths, values}
-use Rattle.record.specs.Layouts.{loop, ranking, exclusion, lasso, other, kindOf, is-loop, Counts, variable-count, row-count, multiplier, scale, direction, rowsOf, counts, layout, ahead, listed}
+use Rattle.record.specs.Layouts.{other, kindOf, is-loop, Counts, variable-count, row-count, multiplier, scale, direction, rowsOf, counts, layout, ahead, listed}
 use Rattle.runs.specs.Runs.{linear, weights, numbers}
 use Rattle.runs.proofs.Forms.{values-run}
 use Rattle.runs.proofs.Parts.{ranking-is, exclusion-is, lasso-is}

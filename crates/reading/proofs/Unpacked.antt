@@ -1,7 +1,7 @@
 -- Unpacking the record that a reader's check answered for is what the reader answers and what it leaves in the list.
-use mathlib.Core.Path.{_≡_, refl, sym, ap, _∙_}
+use mathlib.Core.Path.{_≡_, refl, sym, _∙_}
 use Prim.Native.Nat.{ℕ, _+_, _≤_, _<_}
-use mathlib.Core.Bool.{true, false, cond}
+use mathlib.Core.Bool.{cond}
 use mathlib.Core.List.{List, _++_}
 use native.Mathlib.Omega.{arith}
 use lib.Dec.{eqb, ltb}
@@ -11,10 +11,9 @@ use lib.Seq.{sets}
 use borrow.Author.Tests.{le-leb, lt-leb, le-ltb, lt-ltb, ne-eqb, eqb-true, eqb-false, ltb-true, ltb-false}
 use Rattle.refusal.specs.Tests.{done, refused, first}
 use Rattle.refusal.proofs.TestLaws.{either, passed, failed, passes-done, done-passes, first-then, first-told}
-use Rattle.record.specs.Layouts.{kindOf, is-loop, lengthOf}
+use Rattle.record.specs.Layouts.{kindOf, is-loop}
 use Rattle.record.specs.Readers.{Reader, stated-length, kind-number, kind, counts-read, fields, list-start, list, sound, enough-room, reading, answer, filled, reads, fills}
 use Rattle.record.proofs.FieldLaws.{length-values}
-use Rattle.record.proofs.ReadThenWrite.{Sound}
 use Rattle.runs.specs.Runs.{value-count}
 use Rattle.runs.proofs.ByKind.{no-loop}
 use Rattle.runs.proofs.Copies.{sets-front}

@@ -16,7 +16,7 @@ use record::Reading;
 // ---- runs of numbers of one form, from a place of the bytes on, into the list from an index on
 
 fn read_u16s(bytes: &[u8], place: usize, count: usize, values: &mut [i64], index: usize)
-    requires { ⌜ (place + count * 2 ≤ length (now bytes)) × (index + count * 1 ≤ length (now values)) ⌝ }
+    requires { ⌜ (place + count * 2 ≤ length (now bytes)) × (index + count ≤ length (now values)) ⌝ }
     ensures { λ _. ⌜ now (values .exit) ≡ sets (now (values .entry)) index (numbers u16 count (drop place (now (bytes .entry)))) ⌝ }
 {
     let mut at = place;
@@ -31,7 +31,7 @@ fn read_u16s(bytes: &[u8], place: usize, count: usize, values: &mut [i64], index
 }
 
 fn read_i16s(bytes: &[u8], place: usize, count: usize, values: &mut [i64], index: usize)
-    requires { ⌜ (place + count * 2 ≤ length (now bytes)) × (index + count * 1 ≤ length (now values)) ⌝ }
+    requires { ⌜ (place + count * 2 ≤ length (now bytes)) × (index + count ≤ length (now values)) ⌝ }
     ensures { λ _. ⌜ now (values .exit) ≡ sets (now (values .entry)) index (numbers i16 count (drop place (now (bytes .entry)))) ⌝ }
 {
     let mut at = place;
@@ -46,7 +46,7 @@ fn read_i16s(bytes: &[u8], place: usize, count: usize, values: &mut [i64], index
 }
 
 fn read_i32s(bytes: &[u8], place: usize, count: usize, values: &mut [i64], index: usize)
-    requires { ⌜ (place + count * 4 ≤ length (now bytes)) × (index + count * 1 ≤ length (now values)) ⌝ }
+    requires { ⌜ (place + count * 4 ≤ length (now bytes)) × (index + count ≤ length (now values)) ⌝ }
     ensures { λ _. ⌜ now (values .exit) ≡ sets (now (values .entry)) index (numbers i32 count (drop place (now (bytes .entry)))) ⌝ }
 {
     let mut at = place;

@@ -1,12 +1,12 @@
 -- Where the first number out of range stands: of one field more, of fields in two parts, and of a run of equal fields. The laws
 -- `before-..` are about lists of numbers, as a writer has them; the laws `fault-..` are about bytes.
 use mathlib.Core.Path.{_≡_, refl, sym, ap, _∙_}
-use Prim.Native.Nat.{ℕ, zero, suc, _+_, _*_, _≤_, _<_}
+use Prim.Native.Nat.{ℕ, _+_, _≤_, _<_}
 use mathlib.Core.Bool.{Bool, true, false}
 use mathlib.Core.List.{List, [], _∷_, _++_}
 use native.Mathlib.Omega.{arith}
 use lib.IntN.{ℤ}
-use lib.ListN.{length, take, drop, replicate}
+use lib.ListN.{length, drop}
 use lib.Seq.{drop-drop, drop-at}
 use Rattle.refusal.proofs.TestLaws.{either}
 use Rattle.record.specs.Fields.{Form, u16, i16, i32, width, Field, widths, values, in-range, before-fault}

@@ -2,11 +2,11 @@
 -- part ends; and how many values a list has.
 use mathlib.Core.Path.{_≡_, refl, sym, ap, _∙_}
 use Prim.Native.Nat.{ℕ, zero, suc, _+_, _*_}
-use mathlib.Core.List.{List, [], _∷_, _++_, append-assoc}
+use mathlib.Core.List.{[], _∷_, _++_, append-assoc}
 use native.Mathlib.Omega.{arith}
 use lib.ListN.{length, replicate, replicate-append-replicate, length-append, length-replicate}
 use Rattle.record.specs.Fields.{width, Field, widths}
-use Rattle.record.specs.Layouts.{Kind, loop, ranking, exclusion, lasso, other, Counts, is-loop, variable-count, row-count, entry, right-side, multiplier, scale, direction, row, rowsOf, counts, layout, listed}
+use Rattle.record.specs.Layouts.{Kind, loop, ranking, exclusion, lasso, other, Counts, is-loop, entry, right-side, multiplier, scale, direction, row, rowsOf, counts, layout, listed}
 use Rattle.record.proofs.FieldLaws.{widths-append}
 use Rattle.record.proofs.Lengths.{widths-replicate}
 use Rattle.runs.specs.Runs.{linear, weights, value-count}

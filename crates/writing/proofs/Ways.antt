@@ -16,7 +16,7 @@ use Rattle.record.proofs.Lengths.{length-law, length-most}
 use Rattle.runs.proofs.Copies.{sets-front}
 use Rattle.given.specs.declared.Given.{Given}
 use Rattle.given.specs.Settled.{settling, settled}
-use Rattle.given.proofs.Answers.{Settled, settled-done, settled-refused, says}
+use Rattle.given.proofs.Answers.{settled-done, settled-refused, says}
 use Rattle.writing.specs.Bodies.{body-bytes, Ready, refusal}
 use Rattle.writing.proofs.Bytes.{body-long, kind-small}
 

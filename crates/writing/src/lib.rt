@@ -17,7 +17,7 @@ use record::Writing;
 // ---- runs of values of one form, from an index of the list on, into the body from a place on
 
 fn write_u16s(body: &mut [u8], place: usize, count: usize, values: &[i64], index: usize)
-    requires { ⌜ (index + count * 1 ≤ length (now values)) × (place + count * 2 ≤ length (now body)) × (all-held u16 count (drop index (now values)) ≡ true) ⌝ }
+    requires { ⌜ (index + count ≤ length (now values)) × (place + count * 2 ≤ length (now body)) × (all-held u16 count (drop index (now values)) ≡ true) ⌝ }
     ensures { λ _. ⌜ now (body .exit) ≡ sets (now (body .entry)) place (stores u16 count (drop index (now (values .entry)))) ⌝ }
 {
     let mut i = index;
@@ -32,7 +32,7 @@ fn write_u16s(body: &mut [u8], place: usize, count: usize, values: &[i64], index
 }
 
 fn write_i16s(body: &mut [u8], place: usize, count: usize, values: &[i64], index: usize)
-    requires { ⌜ (index + count * 1 ≤ length (now values)) × (place + count * 2 ≤ length (now body)) × (all-held i16 count (drop index (now values)) ≡ true) ⌝ }
+    requires { ⌜ (index + count ≤ length (now values)) × (place + count * 2 ≤ length (now body)) × (all-held i16 count (drop index (now values)) ≡ true) ⌝ }
     ensures { λ _. ⌜ now (body .exit) ≡ sets (now (body .entry)) place (stores i16 count (drop index (now (values .entry)))) ⌝ }
 {
     let mut i = index;
@@ -47,7 +47,7 @@ fn write_i16s(body: &mut [u8], place: usize, count: usize, values: &[i64], index
 }
 
 fn write_i32s(body: &mut [u8], place: usize, count: usize, values: &[i64], index: usize)
-    requires { ⌜ (index + count * 1 ≤ length (now values)) × (place + count * 4 ≤ length (now body)) × (all-held i32 count (drop index (now values)) ≡ true) ⌝ }
+    requires { ⌜ (index + count ≤ length (now values)) × (place + count * 4 ≤ length (now body)) × (all-held i32 count (drop index (now values)) ≡ true) ⌝ }
     ensures { λ _. ⌜ now (body .exit) ≡ sets (now (body .entry)) place (stores i32 count (drop index (now (values .entry)))) ⌝ }
 {
     let mut i = index;
@@ -114,7 +114,7 @@ fn write_lasso(body: &mut [u8], n: usize, m: usize, ms: usize, values: &[i64])
 
 // A loop's n and m, then its rows.
 fn write_loop(body: &mut [u8], n: usize, m: usize, values: &[i64])
-    requires { ⌜ (n ≤ 16) × (m ≤ 64) × (0 + m * (2 * n + 1) ≤ length (now values)) × (4 + m * (4 * n + 4) ≤ length (now body)) × (in-range (rowsOf n m) (now values) ≡ true) ⌝ }
+    requires { ⌜ (n ≤ 16) × (m ≤ 64) × (m * (2 * n + 1) ≤ length (now values)) × (4 + m * (4 * n + 4) ≤ length (now body)) × (in-range (rowsOf n m) (now values) ≡ true) ⌝ }
     ensures { λ _. ⌜ now (body .exit) ≡ sets (now (body .entry)) 0 (digits 2 n ++ (digits 2 m ++ bytesOf (rowsOf n m) (now (values .entry)))) ⌝ }
 {
     endian::put_u16(body, 0, n);

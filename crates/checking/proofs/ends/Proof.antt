@@ -1,5 +1,4 @@
 -- `checking::ends` meets its contract. Assumes nothing.
-use mathlib.Core.Path.{_∙_}
 use borrow.Author.Tests.{lt-ltb, le-ltb}
 use Rattle.checking.specs.Checks.{ended}
 use borrow.Author.Needs.{needs}

@@ -18,7 +18,7 @@ sized-1 : (c : tie.At-match-keys1) → (let a = c .before .args in (0 + a .m * (
 unfolding kindOf lengthOf value-count
 sized-1 c = omega (arith, rw (c .match .keys1) at (c .before .pre .0), rw (c .match .keys1) at (c .before .pre .1))
 
-sized-2 : (c : tie.At-match-keys2) → (let a = c .before .args in (0 + 2 * a .m * 1 ≤ length (a .values .now)) × (6 + 2 * a .m * 2 ≤ 65536))
+sized-2 : (c : tie.At-match-keys2) → (let a = c .before .args in (0 + 2 * a .m ≤ length (a .values .now)) × (6 + 2 * a .m * 2 ≤ 65536))
 unfolding kindOf lengthOf value-count
 sized-2 c = omega (arith, rw (c .match .keys2) at (c .before .pre .0), rw (c .match .keys2) at (c .before .pre .1))
 

@@ -16,7 +16,7 @@ sized-1 : (c : tie.At-match-keys1) → (let a = c .before .before .args in (10 +
 unfolding kindOf lengthOf value-count
 sized-1 c = omega (arith, rw (c .match .keys1) at (c .before .before .pre .0), rw (c .match .keys1) at (c .before .before .pre .1))
 
-sized-2 : (c : tie.At-match-keys2) → (let a = c .before .before .args in (6 + 2 * a .m * 2 ≤ length (a .bytes .now)) × (0 + 2 * a .m * 1 ≤ length (a .values .now)))
+sized-2 : (c : tie.At-match-keys2) → (let a = c .before .before .args in (6 + 2 * a .m * 2 ≤ length (a .bytes .now)) × (0 + 2 * a .m ≤ length (a .values .now)))
 unfolding kindOf lengthOf value-count
 sized-2 c = omega (arith, rw (c .match .keys2) at (c .before .before .pre .0), rw (c .match .keys2) at (c .before .before .pre .1))
 

@@ -12,11 +12,11 @@ use borrow.Author.Needs.{needs}
 use Rattle.writing.proofs.write_body.Statement.{statement}
 use Rattle.writing.proofs.write_body.Tie as tie
 
-sized-1 : (c : tie.At-match-keys1) → (let a = c .before .before .args in (0 + a .m * (2 * a .n + 1) ≤ length (a .values .now)) × (4 + a .m * (4 * a .n + 4) ≤ length (a .body .now)))
+sized-1 : (c : tie.At-match-keys1) → (let a = c .before .before .args in (a .m * (2 * a .n + 1) ≤ length (a .values .now)) × (4 + a .m * (4 * a .n + 4) ≤ length (a .body .now)))
 unfolding kindOf lengthOf value-count
 sized-1 c = omega (arith, rw (c .match .keys1) at (c .before .before .pre .0 .counted), rw (c .match .keys1) at (c .before .before .pre .1))
 
-sized-2 : (c : tie.At-match-keys2) → (let a = c .before .before .args in (0 + 2 * a .m * 1 ≤ length (a .values .now)) × (0 + 2 * a .m * 2 ≤ length (a .body .now)))
+sized-2 : (c : tie.At-match-keys2) → (let a = c .before .before .args in (0 + 2 * a .m ≤ length (a .values .now)) × (0 + 2 * a .m * 2 ≤ length (a .body .now)))
 unfolding kindOf lengthOf value-count
 sized-2 c = omega (arith, rw (c .match .keys2) at (c .before .before .pre .0 .counted), rw (c .match .keys2) at (c .before .before .pre .1))
 

@@ -1,8 +1,8 @@
 -- `writing::write_record` meets its contract. Assumes nothing.
-use mathlib.Core.Path.{_≡_, refl, _∙_}
-use Prim.Native.Nat.{_≤_, _<_}
+use mathlib.Core.Path.{refl, _∙_}
+use Prim.Native.Nat.{_≤_}
 use native.Mathlib.Omega.{arith}
-use Rattle.record.specs.Layouts.{kindOf, lengthOf}
+use Rattle.record.specs.Layouts.{kindOf}
 use Rattle.record.specs.Writers.{kind, writer}
 use Rattle.record.proofs.Lengths.{length-most}
 use Rattle.given.proofs.Answers.{Settled, says}

@@ -1,12 +1,12 @@
 -- `writing::write_rows` meets its contract. Assumes nothing.
-use mathlib.Core.Path.{_≡_, sym, ap, _∙_}
+use mathlib.Core.Path.{sym, ap, _∙_}
 use Prim.Native.Nat.{_+_, _*_, _≤_, _<_}
 use native.Mathlib.Nat.{mul-le-mul-right}
 use native.Mathlib.Omega.{arith}
 use lib.ListN.{length, drop}
 use lib.Seq.{sets}
 use borrow.Author.Needs.{needs}
-use Rattle.record.specs.Fields.{bytesOf, in-range}
+use Rattle.record.specs.Fields.{bytesOf}
 use Rattle.runs.proofs.Parts.{row-is}
 use Rattle.runs.proofs.Stores.{StoringRows, rows-start, row-fits, rows-more, rows-end}
 use Rattle.writing.proofs.write_rows.Statement.{statement}
