@@ -9,6 +9,7 @@ use lib.ListN.{length, take}
 use Rattle.endian.specs.Numbers.{littleAt}
 use Rattle.refusal.specs.Tests.{Told, done, refused, Test, first}
 use Rattle.record.specs.Readers.{Reader, kind-number, counts-read, sound}
+use Rattle.verdict.specs.Pairs.{has-rank}
 use Rattle.checking.specs.declared.Checked.{Checked}
 
 -- a refusal: all but number and place are 0
@@ -22,6 +23,10 @@ checked (refused number place) r = refusal number place
 
 unfoldable pub checks : Reader → Checked
 checks r = checked (first sound r) r
+
+-- a certificate that is to have a rank; n and m come from its loop
+unfoldable pub ranked-reader : List ℕ → ℕ → ℕ → Reader
+ranked-reader bytes n m = record { bytes = bytes; wants = has-rank; n = n; m = m; room = 0 }
 
 -- ---- in two parts
 

@@ -4,7 +4,7 @@ ghost use mathlib.Core.List.{[]};
 ghost use Rattle.endian.specs.Numbers.{littleAt};
 ghost use Rattle.refusal.specs.Tests.{first};
 ghost use Rattle.record.specs.Readers.{loop-reader, certificate-reader};
-ghost use Rattle.checking.specs.Checks.{refusal, framing, framed, Framed, ended, checks};
+ghost use Rattle.checking.specs.Checks.{ranked-reader, refusal, framing, framed, Framed, ended, checks};
 
 // What a check answers: on a sound record its kind and counts, and number 0; on a refusal all but number and place are 0.
 pub struct Checked {
@@ -168,6 +168,21 @@ pub fn check_certificate(bytes: &[u8], n: usize, m: usize) -> Checked
     match endian::u16_at(bytes, 4) {
         2 => ranking_record(bytes, n, m),
         3 => exclusion_record(bytes, n, m),
+        4 => lasso_record(bytes, n, m),
+        _ => refused(4, 4),
+    }
+}
+
+// Checks a certificate's bytes that are to have a rank: kind 2 or 4.
+pub fn check_ranked(bytes: &[u8], n: usize, m: usize) -> Checked
+    ensures { λ r. ⌜ r ≡ checks (ranked-reader (now (bytes .entry)) n m) ⌝ }
+{
+    let head = frame(bytes);
+    if head.number != 0 {
+        return head;
+    }
+    match endian::u16_at(bytes, 4) {
+        2 => ranking_record(bytes, n, m),
         4 => lasso_record(bytes, n, m),
         _ => refused(4, 4),
     }

@@ -1,24 +1,21 @@
 -- Each kind's certificate in judging: what the code's answer about its conditions means for the definition.
 use mathlib.Core.Path.{_≡_, refl, sym, ap, _∙_}
-use Prim.Native.Nat.{ℕ, _+_, _*_, _≤_, _<_}
+use Prim.Native.Nat.{ℕ, _≤_, _<_}
 use mathlib.Core.Bool.{Bool, true, false}
 use mathlib.Core.List.{List, _++_}
-use native.Mathlib.Omega.{arith}
-use lib.IntN.{ℤ, pos}
+use lib.IntN.{ℤ}
 use lib.ListN.{length, take, drop}
 use Rattle.endian.specs.Numbers.{littleAt}
 use Rattle.record.specs.Layouts.{Kind, ranking, exclusion, lasso, is-loop, is-certificate}
-use Rattle.record.specs.Readers.{counts-read, sound}
-use Rattle.refusal.specs.Tests.{done, first}
+use Rattle.record.specs.Readers.{counts-read}
 use Rattle.theory.specs.Exclusions.{ExclusionHolds}
 use Rattle.conditions.specs.Decided.{Decides, RankedBy, LassoBy}
 use Rattle.conditions.specs.Held.{loop-held, ranking-held, exclusion-held, lasso-held}
 use Rattle.conditions.specs.declared.Ranked.{Ranked}
 use Rattle.verdict.specs.Contents.{loop-in, ranking-in, exclusion-in, lasso-in}
-use Rattle.verdict.specs.Judging.{Judging, rank-room, judging, judges, rank-after, judge-of}
+use Rattle.verdict.specs.Judging.{Judging, judges, rank-after, judge-of}
 use Rattle.verdict.specs.Outcomes.{grade-of}
-use Rattle.verdict.specs.Pairs.{Pair, loop-record, certificate-record, kind-of, variables-of, conditions, has-rank}
-use Rattle.verdict.specs.declared.Verdict.{Verdict}
+use Rattle.verdict.specs.Pairs.{loop-record, certificate-record, kind-of, variables-of, has-rank}
 use Rattle.verdict.specs.declared.Outcome.the-variants.{Ranking, Exclusion, Lasso}
 use Rattle.verdict.proofs.Accepted.{Both-sound, shows, room-there, no-room-needed, ranking-conditions, exclusion-conditions, lasso-conditions, accepted-exactly-when-ranking, accepted-exactly-when-exclusion, accepted-exactly-when-lasso, ranking-answers, exclusion-answers, lasso-answers}
 use Rattle.judge.specs.Told.{LoopSound, CertificateSound, refusal-of}

@@ -1,25 +1,25 @@
 -- What a sound record's bytes hold, by places: the rows and multipliers that specs/Contents.antt of crate `verdict` takes out of a record's list are tables
 -- of the numbers at their places in the bytes. So each sum of the theory is a sum of crate `columns`, and no proof above this file sees a list of values.
 use mathlib.Core.Path.{_≡_, refl, sym, ap, ap₂, _∙_}
-use Prim.Native.Nat.{ℕ, zero, suc, _+_, _*_, _<_, _≤_}
+use Prim.Native.Nat.{ℕ, zero, suc, _+_, _*_}
 use mathlib.Core.List.{List, [], _∷_, _++_, append-assoc, append-nil}
 use native.Mathlib.Nat.{zero-mul}
 use native.Mathlib.Numerals.{add-one}
 use native.Mathlib.Omega.{arith}
-use lib.IntN.{ℤ, pos, _*ℤ_}
+use lib.IntN.{ℤ, pos}
 use lib.ListN.{replicate, take, drop, getD}
 use lib.Seq.{drop-drop}
 use Rattle.whole.specs.Rows.{Row}
-use Rattle.whole.specs.Sums.{sum, total, tabulate}
-use Rattle.whole.proofs.Tables.{tabulate-same, tabulate-at, sum-tabulate, total-same}
+use Rattle.whole.specs.Sums.{tabulate}
+use Rattle.whole.proofs.Tables.{tabulate-same}
 use Rattle.endian.specs.Numbers.{littleAt}
 use Rattle.record.specs.Fields.{width, widths, number, Field, values}
 use Rattle.record.specs.Readers.{Reader, kind, counts-read, fields, list-start, list}
 use Rattle.record.specs.Layouts.{loop, ranking, exclusion, lasso, is-loop, variable-count, row-count, scale, direction, counts, layout, ahead, listed, entry, right-side, multiplier, row, rowsOf}
 use Rattle.columns.specs.Lists.{multipliersFrom, entriesFrom, rightsFrom, rowFrom, rowsFrom}
-use Rattle.columns.specs.Places.{entryAt, rightAt, multiplierAt, rowAt, nowTerm, nextTerm, rightTerm}
-use Rattle.theory.specs.Loops.{A, A′, b, over}
-use Rattle.conditions.specs.Held.{loop-held, ranking-held, exclusion-held, lasso-held, s-place, s0-place, k-place, T-place, k2-place, H-place, h0-place, Y-place}
+use Rattle.columns.specs.Places.{entryAt, rightAt, multiplierAt, rowAt}
+use Rattle.theory.specs.Loops.{A, over}
+use Rattle.conditions.specs.Held.{loop-held, ranking-held, exclusion-held, lasso-held, s-place, s0-place, T-place, k2-place, H-place, h0-place, Y-place}
 use Rattle.verdict.specs.Contents.{rows-from, ranking-from, exclusion-from, lasso-from, loop-in, ranking-in, exclusion-in, lasso-in}
 
 -- the number of a field at a place

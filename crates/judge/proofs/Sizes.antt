@@ -1,18 +1,18 @@
 -- What sound records give the conditions' code: their kinds, their counts within the limits, and that every part lies within the bytes.
-use mathlib.Core.Path.{_≡_, refl, sym, ap, _∙_}
+use mathlib.Core.Path.{_≡_, refl, sym, _∙_}
 use Prim.Native.Nat.{ℕ, _+_, _*_, _≤_}
 use mathlib.Core.Bool.{Bool, true, false}
 use mathlib.Core.List.{List}
 use native.Mathlib.Omega.{arith}
 use lib.ListN.{length}
-use Rattle.record.specs.Layouts.{Kind, loop, ranking, exclusion, lasso, other, is-loop, is-certificate, lengthOf}
+use Rattle.record.specs.Layouts.{Kind, loop, ranking, exclusion, lasso, other, is-loop, lengthOf}
 use Rattle.record.specs.Readers.{Reader, kind, counts-read, sound, stated-length}
 use Rattle.record.proofs.ReadThenWrite.{Sound, sound-says, arguments-read}
 use Rattle.refusal.specs.Tests.{done, first}
 use Rattle.refusal.proofs.TestLaws.{done-passes}
 use Rattle.checking.proofs.Answers.{counts-small}
 use Rattle.columns.specs.Places.{RowsIn, MultipliersIn}
-use Rattle.conditions.specs.Held.{LassoIn, Y-place}
+use Rattle.conditions.specs.Held.{LassoIn}
 use Rattle.verdict.specs.Pairs.{loop-record, certificate-record}
 use Rattle.judge.specs.Told.{LoopSound, CertificateSound}
 

@@ -1,19 +1,16 @@
 -- The ways through judging, one for each return: what is told of the records, and the verdict and the rank list that the definition then has.
-use mathlib.Core.Path.{_≡_, refl, sym, ap, _∙_}
-use Prim.Native.Nat.{ℕ, _≤_, _<_}
-use mathlib.Core.Bool.{Bool, true, false}
-use mathlib.Core.List.{List, _++_}
-use native.Mathlib.Omega.{arith}
+use mathlib.Core.Path.{_≡_, refl, _∙_}
+use Prim.Native.Nat.{ℕ, _<_}
+use mathlib.Core.Bool.{true}
+use mathlib.Core.List.{List}
 use lib.IntN.{ℤ}
-use lib.ListN.{length, drop}
 use borrow.Author.Tests.{lt-leb}
-use Rattle.record.specs.Layouts.{Kind, ranking, exclusion, lasso, is-certificate}
 use Rattle.record.specs.Readers.{sound}
 use Rattle.refusal.specs.Tests.{Told, done, refused, first}
-use Rattle.refusal.proofs.TestLaws.{passes-done, failed}
-use Rattle.verdict.specs.Judging.{Judging, rank-room, judging, judges, ranks, rank-after, judge-of}
-use Rattle.verdict.specs.Pairs.{Pair, loop-record, certificate-record, kind-of, variables-of, folded, conditions, has-rank}
-use Rattle.verdict.specs.Stages.{Said, agreed, refusal, said, verdict-of}
+use Rattle.refusal.proofs.TestLaws.{failed}
+use Rattle.verdict.specs.Judging.{Judging, rank-room, judging, judges, ranks, rank-after}
+use Rattle.verdict.specs.Pairs.{Pair, kind-of, variables-of, folded, conditions, has-rank}
+use Rattle.verdict.specs.Stages.{refusal, said, verdict-of}
 use Rattle.verdict.proofs.StageLaws.{stage-done, stage-refused}
 use Rattle.judge.specs.Told.{refusal-of}
 

@@ -41,7 +41,7 @@ before-inside x xs h = step (within state-entries x) h
     step false e = cc
 
 -- one out of range stops the count
-before-stops : (x : ℤ) (xs : List ℤ) → within state-entries x ≡ false → before-outside (x ∷ xs) ≡ 0
+pub before-stops : (x : ℤ) (xs : List ℤ) → within state-entries x ≡ false → before-outside (x ∷ xs) ≡ 0
 unfolding before-outside
 before-stops x xs h = step (within state-entries x) h
   where
@@ -50,7 +50,7 @@ before-stops x xs h = step (within state-entries x) h
     step false e = refl
 
 -- every entry is passed over exactly when each is in range
-inside-all : (xs : List ℤ) → before-outside xs ≡ length xs → Each (In state-entries) xs
+pub inside-all : (xs : List ℤ) → before-outside xs ≡ length xs → Each (In state-entries) xs
 unfolding Each
 inside-all [] h = tt
 inside-all (x ∷ xs) h =
@@ -104,7 +104,7 @@ pub record State-in (b : Bounding) : Type 0 where
   pub counted : length (b .state) ≡ variables-of (b .records)
   pub each : Each (In state-entries) (b .state)
 
-state-fits : (b : Bounding) → (first state-tests b ≡ done) ↔ State-in b
+pub state-fits : (b : Bounding) → (first state-tests b ≡ done) ↔ State-in b
 unfolding state-tests
 state-fits b = (
   λ h.

@@ -115,6 +115,7 @@ pub record Ranking-sums-fit (loop : Loop) (c : Ranking) : Type 0 where
   pub ZA+ZA′ : (j : ℕ) → Fits64 (sum (c .Z) (A j) (loop .rows) +ℤ sum (c .Z) (A′ j) (loop .rows))
   pub start-fits : Fits64 (start loop c)
   pub fall-fits : Fits64 (fall loop c)
+  pub rank-within : Within 117_000_000_000 (rank loop c)
   -- at every state in range
   pub value : (x : List ℤ) → Within 1_000_000 x → Fits64 (dot (rank loop c) x)
   pub above-start : (x : List ℤ) → Within 1_000_000 x → Fits64 (dot (rank loop c) x -ℤ start loop c)
@@ -151,6 +152,7 @@ sums-fit loop c few small Y-weights Z-weights =
           );
       start-fits = omega (arith, start-small);
       fall-fits = omega (arith, abs-neg (sum (c .Z) b (loop .rows)), b-sum-small (c .Z) (loop .rows) Z-weights small);
+      rank-within = rank-small loop c Z-weights small;
       value = λ x in-range. omega (arith, value-small x in-range);
       above-start =
           λ x in-range.

@@ -1,11 +1,8 @@
 -- `judge::grade` meets its contract. Assumes nothing.
-use mathlib.Core.Path.{refl}
 use borrow.Author.Tests.{eq-eqb, ne-eqb}
 use Rattle.verdict.specs.Outcomes.{grade-of}
 use Rattle.judge.proofs.grade.Statement.{statement}
 use Rattle.judge.proofs.grade.Tie as tie
-use Rattle.judge.proofs.grade.Reads as reads
-use Rattle.judge.proofs.grade.Lts as lts
 
 -- src/lib.rt:77:1
 returns : tie.Need-returns

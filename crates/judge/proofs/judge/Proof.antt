@@ -1,16 +1,11 @@
 -- `judge::judge` meets its contract: the loop is checked, then judged. Assumes nothing.
-use mathlib.Core.Path.{_≡_, refl, sym, _∙_}
+use mathlib.Core.Path.{_∙_}
 use Rattle.verdict.specs.Judging.{judge-of}
 use Rattle.judge.proofs.Entered.{loop-refused, loop-sound}
 use Rattle.judge.proofs.Ways.{refused-so, at-loop}
 use borrow.Author.Needs.{needs}
 use Rattle.judge.proofs.judge.Statement.{statement}
 use Rattle.judge.proofs.judge.Tie as tie
-use Rattle.judge.proofs.judge.Reads as reads
-use Rattle.judge.proofs.judge.Lts as lts
-use Rattle.checking.proofs.check_loop.Reads as check-loop-reads
-use Rattle.judge.proofs.judge_sound.Reads as judge-sound-reads
-use Rattle.judge.proofs.refused.Reads as refused-reads
 
 -- src/lib.rt:130:9
 check-loop-requires : tie.Need-check-loop-requires

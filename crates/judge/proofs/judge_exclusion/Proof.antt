@@ -1,5 +1,5 @@
 -- `judge::judge_exclusion` meets its contract: each return is one way through judging. Assumes nothing.
-use mathlib.Core.Path.{_≡_, refl, sym, _∙_}
+use mathlib.Core.Path.{_∙_}
 use native.Mathlib.Omega.{arith}
 use borrow.Author.Tests.{not-true, not-false}
 use Rattle.record.specs.Layouts.{is-certificate}
@@ -8,12 +8,6 @@ use Rattle.judge.proofs.Sizes.{n-few, rows-in, exclusion-long}
 use borrow.Author.Needs.{needs}
 use Rattle.judge.proofs.judge_exclusion.Statement.{statement}
 use Rattle.judge.proofs.judge_exclusion.Tie as tie
-use Rattle.judge.proofs.judge_exclusion.Reads as reads
-use Rattle.judge.proofs.judge_exclusion.Lts as lts
-use Rattle.conditions.proofs.exclusion.Reads as exclusion-reads
-use Rattle.endian.proofs.u16_at.Reads as u16-at-reads
-use Rattle.judge.proofs.grade.Reads as grade-reads
-use Rattle.judge.proofs.refused.Reads as refused-reads
 
 -- src/lib.rt:66:9
 exclusion-requires : tie.Need-exclusion-requires

@@ -1,5 +1,5 @@
 -- `judge::judge_lasso` meets its contract: each return is one way through judging. Assumes nothing.
-use mathlib.Core.Path.{_≡_, refl, sym, _∙_}
+use mathlib.Core.Path.{refl, _∙_}
 use Prim.Native.Nat.{_≤_}
 use native.Mathlib.Omega.{arith}
 use mir.Facts.{toZ-ofZ}
@@ -8,15 +8,10 @@ use borrow.Author.Tests.{not-true, not-false}
 use Rattle.record.specs.Layouts.{lasso, is-certificate}
 use Rattle.verdict.specs.Pairs.{has-rank}
 use Rattle.judge.proofs.ByKind.{short-list, lasso-refused, lasso-accepted}
-use Rattle.judge.proofs.Sizes.{n-few, m-few, rows-in, lasso-long}
+use Rattle.judge.proofs.Sizes.{n-few, rows-in, lasso-long}
 use borrow.Author.Needs.{needs, sfits-of}
 use Rattle.judge.proofs.judge_lasso.Statement.{statement}
 use Rattle.judge.proofs.judge_lasso.Tie as tie
-use Rattle.judge.proofs.judge_lasso.Reads as reads
-use Rattle.judge.proofs.judge_lasso.Lts as lts
-use Rattle.conditions.proofs.lasso.Reads as lasso-reads
-use Rattle.judge.proofs.put_rank.Reads as put-rank-reads
-use Rattle.judge.proofs.refused.Reads as refused-reads
 
 -- src/lib.rt:46:9
 refused-requires : tie.Need-refused-requires

@@ -1,5 +1,5 @@
 -- `judge::judge_ranking` meets its contract: each return is one way through judging. Assumes nothing.
-use mathlib.Core.Path.{_≡_, refl, sym, _∙_}
+use mathlib.Core.Path.{refl, _∙_}
 use Prim.Native.Nat.{_≤_}
 use native.Mathlib.Omega.{arith}
 use mir.Facts.{toZ-ofZ}
@@ -12,11 +12,6 @@ use Rattle.judge.proofs.Sizes.{n-few, m-few, rows-in, ranking-long}
 use borrow.Author.Needs.{needs, sfits-of}
 use Rattle.judge.proofs.judge_ranking.Statement.{statement}
 use Rattle.judge.proofs.judge_ranking.Tie as tie
-use Rattle.judge.proofs.judge_ranking.Reads as reads
-use Rattle.judge.proofs.judge_ranking.Lts as lts
-use Rattle.conditions.proofs.ranking.Reads as ranking-reads
-use Rattle.judge.proofs.put_rank.Reads as put-rank-reads
-use Rattle.judge.proofs.refused.Reads as refused-reads
 
 -- src/lib.rt:46:9
 refused-requires : tie.Need-refused-requires

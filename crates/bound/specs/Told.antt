@@ -1,0 +1,28 @@
+-- What the bound's functions are told of the state, and the shape of a refusal.
+use Prim.Native.Nat.{ℕ, _<_}
+use mathlib.Core.Path.{_≡_}
+use mathlib.Core.List.{List}
+use lib.IntN.{ℤ, pos, natAbs, _-ℤ_}
+use lib.Signed.{_<ℤ_}
+use lib.ListN.{length, take}
+use Rattle.whole.specs.Sums.{dot, Within}
+use Rattle.verdict.specs.Bounding.{before-outside}
+use Rattle.verdict.specs.declared.Bounded.{Bounded}
+use Rattle.judge.specs.Told as Judging
+
+-- a state of n entries, all in range
+pub record StateFits (state : List ℤ) (n : ℕ) : Type 0 where
+  pub long : length state ≡ n
+  pub inside : before-outside state ≡ length state
+
+-- a refusal has no bound
+abbrev pub refusal-of : ℕ → ℕ → ℕ → Bounded
+refusal-of about number place = record { verdict = Judging.refusal-of about number place; bound = 0 }
+
+-- what a bound at a state needs of a rank, so that every number fits
+pub record Ready (entries : List ℤ) (n : ℕ) (start fall : ℤ) (state : List ℤ) : Type 0 where
+  pub long : length entries ≡ 16
+  pub entries-small : Within 274877906944 (take n entries)
+  pub state-small : Within 1048576 state
+  pub above-fits : natAbs (dot (take n entries) state -ℤ start) < 9223372036854775808
+  pub falls : pos 0 <ℤ fall
