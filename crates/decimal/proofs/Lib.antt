@@ -1,0 +1,3 @@
+pub mod DecimalLaws
+pub mod Ends
+pub mod RoomLaws

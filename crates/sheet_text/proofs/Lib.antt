@@ -1,0 +1,6 @@
+pub mod OneAnswer
+pub mod PartingLaws
+pub mod SampleText
+pub mod Sizes
+pub mod TextLaws
+pub mod WorstCase

@@ -1,0 +1,319 @@
+-- No text is longer than the worst case: a certificate's line has at most 276 bytes, the first line at most 24, and each record but the last takes 6 bytes of
+-- the input at least. Assumes nothing.
+use mathlib.Core.Path.{_≡_, refl, sym, ap, _∙_}
+use Prim.Native.Nat.{ℕ, zero, suc, _+_, _*_, _^_, _≤_, _<_, min}
+use mathlib.Core.Bool.{true, _||_, false≢true}
+use mathlib.Core.List.{List, [], _∷_, _++_}
+use native.Mathlib.Decide.{decLt}
+use native.Mathlib.Omega.{arith}
+use lib.IntN.{ℤ, pos, natAbs}
+use lib.ListN.{length, take, drop, length-append, length-drop}
+use lib.Seq.{take-at}
+use Rattle.whole.specs.Sums.{Each}
+use Rattle.whole.proofs.EachLaws.{each-append}
+use Rattle.whole.proofs.Solve.{v, le-fact}
+use Rattle.whole.proofs.Tables.{length-tabulate}
+use Rattle.decimal.specs.Decimals.{decimal, signed-decimal}
+use Rattle.decimal.proofs.DecimalLaws.{decimal-length, signed-length}
+use Rattle.record.specs.Layouts.{Kind, loop, ranking, exclusion, lasso, other, is-loop, is-certificate}
+use Rattle.record.specs.Ranges.{_to_, variables, rows}
+use Rattle.record.specs.Readers as R
+use Rattle.record.specs.Readers.{Reader, sound}
+use Rattle.record.proofs.ReadThenWrite.{Sound, sound-says}
+use Rattle.refusal.specs.Tests.{Told, done, refused, first}
+use Rattle.refusal.proofs.TestLaws.{done-passes}
+use Rattle.theory.specs.Lassos as Lassos
+use Rattle.theory.specs.Rankings as Rankings
+use Rattle.verdict.specs.Contents.{loop-in, ranking-in, lasso-in, parts}
+use Rattle.verdict.specs.Judging.{Judging, rank-room, judging, judges, rank-after, judge-of}
+use Rattle.verdict.specs.Pairs.{loop-record, certificate-record, kind-of, variables-of, folded, conditions}
+use Rattle.verdict.specs.Stages.{Said, agreed, refusal, Stage, _says_, said, verdict-of}
+use Rattle.verdict.specs.declared.Grade.the-variants.{Whole, Fractions}
+use Rattle.verdict.specs.declared.Outcome.{Outcome}
+use Rattle.verdict.specs.declared.Outcome.the-variants.{Nothing, Ranking, Exclusion, Lasso}
+use Rattle.verdict.specs.declared.Verdict.{Verdict}
+use Rattle.verdict.proofs.Accepted.{accepts-agrees, ranking-answers, lasso-answers, exclusion-answers}
+use Rattle.verdict.proofs.Parts.{counts-in, loop-parts, ranking-parts, lasso-parts}
+use Rattle.verdict.proofs.StageLaws.{by-told, stage-done, stage-refused}
+use Rattle.sheet_lines.specs.Words.{bytes, line, run}
+use Rattle.sheet_text.specs.Parting.{taken, first-record, after-first, records}
+use Rattle.sheet_lines.specs.VerdictLines.{outcome-words, verdict-line}
+use Rattle.sheet_text.specs.Sheets.{lent, variables-in, rows-in, certificate-line, lines, judged, sheet-text, worst}
+use Rattle.sheet_lines.proofs.LineLaws.{line-loop, entries, nothing-line, ranking-line, lasso-line, whole-exclusion-line, fractions-exclusion-line, line-refused, length-pair, length-rank, length-count}
+use Rattle.sheet_text.proofs.PartingLaws.{taken-all-or-six, first-length, rest-length, nothing-left, no-bytes, fewer}
+use Rattle.sheet_text.proofs.TextLaws.{text-judged, text-too-long, lines-none, lines-more}
+use Rattle.sheet_text.proofs.Sizes.{Small-told, first-small, sound-told, each-map, Small-row, row-small, added-small, weights-small, Small-rank, rank-sizes}
+
+-- ---- the line of a verdict whose numbers are small
+
+pub record Small-refusal (number place : ℕ) : Type 0 where
+  pub one-digit : number < 10
+  pub near : place ≤ 65_536
+
+-- at most 16 entries
+pub record Few (r : List ℤ) (start fall : ℤ) : Type 0 where
+  pub sixteen : length r ≤ 16
+  pub small : Small-rank r start fall
+
+abbrev pub Small-verdict : Outcome → ℕ → ℕ → List ℤ → Type 0
+Small-verdict Nothing number place r = Small-refusal number place
+Small-verdict (Ranking start fall) number place r = Few r start fall
+Small-verdict (Exclusion grade) number place r = Unit {0}
+Small-verdict (Lasso start fall) number place r = Few r start fall
+
+entries-size : (r : List ℤ) → Each (λ z. natAbs z < 10 ^ 12) r → length (entries r) ≤ 14 * length r
+unfolding Each run bytes
+entries-size [] small = omega arith
+entries-size (z ∷ r) small = simp length-append (omega (arith, signed-length 11 z (small .0), entries-size r (small .1)))
+
+rank-size : (r : List ℤ) (start fall : ℤ) → Few r start fall → length (entries r) + (5 + (length (signed-decimal start) + 1) + (5 + (length (signed-decimal fall) + 1))) ≤ 264
+rank-size r start fall few =
+    omega (
+      arith,
+      few .sixteen,
+      entries-size r (few .small .rank-small),
+      signed-length 12 start (few .small .start-small),
+      signed-length 12 fall (few .small .fall-small),
+    )
+
+refusal-size : (number place : ℕ) → Small-refusal number place → length (line (bytes "refused" ∷ decimal number ∷ decimal place ∷ [])) ≤ 16
+refusal-size number place small =
+    rw (line-refused (decimal number) (decimal place))
+    (omega (arith, length-pair (decimal number) (decimal place), decimal-length 0 number (omega (arith, small .one-digit)), decimal-length 4 place (omega (arith, small .near))))
+
+outcome-size : (o : Outcome) (number place : ℕ) (r : List ℤ) → Small-verdict o number place r → length (line (outcome-words o number place r)) ≤ 270
+outcome-size Nothing number place r small = rw (nothing-line Nothing number place r refl) (omega (arith, refusal-size number place small))
+outcome-size (Ranking start fall) number place r small = rw (ranking-line (Ranking start fall) number place r start fall refl) (omega (arith, length-rank r start fall, rank-size r start fall small))
+outcome-size (Exclusion Whole) number place r small = rw (whole-exclusion-line (Exclusion Whole) number place r Whole refl refl) (omega arith)
+outcome-size (Exclusion Fractions) number place r small = rw (fractions-exclusion-line (Exclusion Fractions) number place r Fractions refl refl) (omega arith)
+outcome-size (Lasso start fall) number place r small = rw (lasso-line (Lasso start fall) number place r start fall refl) (omega (arith, length-rank r start fall, rank-size r start fall small))
+
+verdict-size : (count : ℕ) (verdict : Verdict) (r : List ℤ) → count < 10 ^ 5 → Small-verdict (verdict .outcome) (verdict .number) (verdict .place) r
+    → length (verdict-line count verdict r) ≤ 276
+verdict-size count verdict r few small =
+    omega (arith, length-count count verdict r, decimal-length 4 count few, outcome-size (verdict .outcome) (verdict .number) (verdict .place) r small)
+
+-- ---- what is said is small
+
+abbrev Small-said : Said → Type 0
+Small-said agreed = Unit {0}
+Small-said (refusal about number place) = Small-refusal number place
+
+module _ {I : Type 0} where
+  abbrev Small-stages : List (Stage I) → I → Type 0
+  Small-stages [] i = Unit {0}
+  Small-stages ((about says told) ∷ stages) i = Small-told 65_536 (told i) × Small-stages stages i
+
+  said-small : (stages : List (Stage I)) (i : I) → Small-stages stages i → Small-said (said stages i)
+  unfolding said
+  said-small [] i small = tt
+  said-small ((about says told) ∷ stages) i small =
+      by-told (told i)
+      (λ e. rw (stage-done about told stages i e) (said-small stages i (small .1)))
+      (λ k p e. rw (stage-refused about told stages i k p e) (refused-small k p (rw e at (small .0))))
+    where
+      refused-small : (k p : ℕ) → Small-told 65_536 (refused k p) → Small-refusal k p
+      refused-small k p h = record { one-digit = h .0; near = h .1 }
+
+told-more : (size : ℕ) (t : Told) → size ≤ 65_536 → Small-told size t → Small-told 65_536 t
+told-more size done more small = tt
+told-more size (refused k p) more small = (small .0, omega (arith, small .1))
+
+folded-small : (t : Told) → Small-told 65_536 (folded t)
+unfolding folded
+folded-small done = tt
+folded-small (refused k p) = (omega arith, omega arith)
+
+-- ---- the records of a judge
+
+is-sound : (r : Reader) → first sound r ≡ done → Sound r
+is-sound r h = sound-says r (done-passes sound r h)
+
+loop-known : (k : Kind) → is-loop k ≡ true → (is-loop k || is-certificate k) ≡ true
+loop-known k e = rw e
+
+certificate-known : (k : Kind) → is-certificate k ≡ true → (is-loop k || is-certificate k) ≡ true
+unfolding is-loop is-certificate
+certificate-known loop e = refl
+certificate-known ranking e = refl
+certificate-known exclusion e = refl
+certificate-known lasso e = refl
+certificate-known other e = e
+
+is-loop-kind : (k : Kind) → is-loop k ≡ true → k ≡ loop
+unfolding is-loop
+is-loop-kind loop e = refl
+is-loop-kind ranking e = cc
+is-loop-kind exclusion e = cc
+is-loop-kind lasso e = cc
+is-loop-kind other e = cc
+
+-- a loop whose bytes are sound
+module _ (l : List ℕ) (loop-sound : first sound (loop-record l) ≡ done) where
+  loop-wanted : is-loop (R.kind (loop-record l)) ≡ true
+  unfolding loop-record
+  loop-wanted = is-sound (loop-record l) loop-sound .wanted
+
+  pub few-variables : variables-in l ≤ 16
+  unfolding variables-in variables _to_
+  few-variables =
+      let c = counts-in (loop-record l) (is-sound (loop-record l) loop-sound) (loop-known _ loop-wanted) in
+      omega (arith, le-fact (v (pos (R.counts-read (loop-record l) .n))) (v (pos 16)) (c .n-in .most))
+
+  few-rows : rows-in l ≤ 64
+  unfolding rows-in rows _to_
+  few-rows =
+      let c = counts-in (loop-record l) (is-sound (loop-record l) loop-sound) (loop-known _ loop-wanted) in
+      omega (arith, le-fact (v (pos (R.counts-read (loop-record l) .m))) (v (pos 64)) (c .m-in .most))
+
+  rows-small : Each Small-row (loop-in (loop-record l) .rows)
+  rows-small = each-map _ (row-small _) (loop-parts (loop-record l) (is-sound (loop-record l) loop-sound) (is-loop-kind _ loop-wanted) .each)
+
+-- ---- a certificate's line
+
+module _ (l c : List ℕ) (loop-sound : first sound (loop-record l) ≡ done) (near : length c ≤ 65_536) where
+  abbrev j : Judging
+  j = judge-of l c lent
+
+  -- the certificate's record
+  abbrev r : Reader
+  r = certificate-record is-certificate (loop-record l) c
+
+  said-is-small : Small-said (said judging j)
+  unfolding judging judge-of rank-room conditions certificate-record variables-of variables-in
+  said-is-small =
+      said-small judging j (
+        rw loop-sound tt,
+        (
+          told-more (length c) (first sound r) near (sound-told r certificate-known),
+          (
+            first-small 65_536 rank-room j (λ e. (omega arith, omega (arith, few-variables l loop-sound)), λ e. tt),
+            (folded-small _, tt),
+          ),
+        ),
+      )
+
+  -- an accepted certificate's record, and the multipliers that it may have
+  certificate-wanted : first sound r ≡ done → is-certificate (R.kind r) ≡ true
+  unfolding certificate-record
+  certificate-wanted h = is-sound r h .wanted
+
+  few-multipliers : first sound r ≡ done → R.counts-read r .m ≤ 64
+  unfolding rows _to_
+  few-multipliers h =
+      let counted = counts-in r (is-sound r h) (certificate-known _ (certificate-wanted h)) in
+      omega (arith, le-fact (v (pos (R.counts-read r .m))) (v (pos 64)) (counted .m-in .most))
+
+  ranking-small : first sound r ≡ done → R.kind r ≡ ranking → let loop-is = loop-in (loop-record l) in let c = ranking-in r in
+      Small-rank (Rankings.rank loop-is c) (Rankings.start loop-is c) (Rankings.fall loop-is c)
+  ranking-small h e =
+      let m = few-multipliers h in
+      let p = ranking-parts r (is-sound r h) e in
+      rank-sizes _ _ (rows-small l loop-sound) (weights-small _ _ (omega arith) (p .Y-in)) (weights-small _ _ (omega arith) (p .Z-in))
+
+  lasso-small : first sound r ≡ done → R.kind r ≡ lasso → let loop-is = Lassos.longer (loop-in (loop-record l)) (lasso-in r) in let c = lasso-in r .ranking in
+      Small-rank (Rankings.rank loop-is c) (Rankings.start loop-is c) (Rankings.fall loop-is c)
+  unfolding parts Each
+  lasso-small h e =
+      let m = few-multipliers h in
+      let p = lasso-parts r (is-sound r h) e in
+      rank-sizes _ _
+      (each-append Small-row (loop-in (loop-record l) .rows) _ (rows-small l loop-sound) (added-small (loop-in (loop-record l) .variables) _ _ (p .s0-in), tt))
+      (weights-small _ _ (omega arith) (p .Y-in)) (weights-small _ _ (omega arith) (p .Z-in))
+
+  -- the rank that is printed
+  abbrev printed : List ℤ
+  printed = take (variables-in l) (rank-after j lent)
+
+  few-printed : (rank-is : List ℤ) (start fall : ℤ) → rank-after j lent ≡ rank-is ++ drop (variables-of (j .records)) lent → length rank-is ≡ variables-in l
+      → Small-rank rank-is start fall → Few printed start fall
+  few-printed rank-is start fall after size small =
+      let whole : printed ≡ rank-is = ap (take (variables-in l)) after ∙ take-at rank-is _ _ size in
+      rw whole (record { sixteen = omega (arith, few-variables l loop-sound); small = small })
+
+  accepted-sound : judges j .number ≡ 0 → first sound r ≡ done
+  unfolding judging judge-of
+  accepted-sound zero-told = accepts-agrees j .0 zero-told .1 .0
+
+  accepted-small : judges j .number ≡ 0 → (k : Kind) → kind-of (j .records) ≡ k → Small-verdict (judges j .outcome) (judges j .number) (judges j .place) printed
+  unfolding kind-of judge-of is-certificate variables-in Rankings.rank loop-in
+  accepted-small zero-told loop e = absurd (false≢true (ap is-certificate (sym e) ∙ certificate-wanted (accepted-sound zero-told)))
+  accepted-small zero-told ranking e =
+      let a = ranking-answers j lent e zero-told in
+      rw (a .verdict-is) (few-printed _ _ _ (a .list-is) (length-tabulate _ _) (ranking-small (accepted-sound zero-told) e))
+  accepted-small zero-told exclusion e = rw (exclusion-answers j lent e zero-told .0) tt
+  accepted-small zero-told lasso e =
+      let a = lasso-answers j lent e zero-told in
+      rw (a .verdict-is) (few-printed _ _ _ (a .list-is) (length-tabulate _ _) (lasso-small (accepted-sound zero-told) e))
+  accepted-small zero-told other e = absurd (false≢true (ap is-certificate (sym e) ∙ certificate-wanted (accepted-sound zero-told)))
+
+  verdict-small : (s : Said) → said judging j ≡ s → Small-verdict (judges j .outcome) (judges j .number) (judges j .place) printed
+  unfolding judges verdict-of
+  verdict-small agreed e = accepted-small (rw e) (kind-of (j .records)) refl
+  verdict-small (refusal about number place) e = rw e (rw e at said-is-small)
+
+  certificate-size : (count : ℕ) → count < 10 ^ 5 → length (certificate-line l count c) ≤ 276
+  unfolding certificate-line
+  certificate-size count few = verdict-size count (judges j) printed few (verdict-small (said judging j) refl)
+
+-- ---- all lines
+
+module _ (l : List ℕ) (loop-sound : first sound (loop-record l) ≡ done) where
+  lines-step : (count : ℕ) (input : List ℕ) → 0 < length input → count + length input ≤ 65_537 → length input ≤ 65_536
+      → length (lines l (suc count) (records (after-first input))) ≤ 46 * length (after-first input) + 276 → length (lines l count (records input)) ≤ 46 * length input + 276
+  unfolding after-first
+  lines-step count input some few short rest =
+      let line-size : length (certificate-line l count (first-record input)) ≤ 276
+      = certificate-size l (first-record input) loop-sound (omega (arith, first-length input)) count (omega arith) in
+      rw (lines-more l count input some, length-append)
+      (taken-all-or-six input
+      (λ all. rw (nothing-left input all, lines-none) (omega arith))
+      (λ six within. omega (arith, left six within)))
+    where
+      left : 6 ≤ taken input → taken input ≤ length input → length (after-first input) + 6 ≤ length input
+      left six within = rw length-drop (omega arith)
+
+  lines-size : (most count : ℕ) (input : List ℕ) → length input ≤ most → count + length input ≤ 65_537 → length input ≤ 65_536
+      → length (lines l count (records input)) ≤ 46 * length input + 276
+  lines-size zero count input enough few short = rw (no-bytes input enough, lines-none) (omega arith)
+  lines-size (suc most) count input enough few short =
+      elim (decLt 0 (length input)) [
+        | yes some ↦
+            let less : length (after-first input) < length input = fewer input some in
+            lines-step count input some few short (lines-size most (suc count) (after-first input) (omega arith) (omega arith) (omega arith))
+        | no none ↦ rw (no-bytes input (omega arith), lines-none) (omega arith)
+      ]
+
+-- ---- the text
+
+loop-told : (l : List ℕ) → length l ≤ 65_536 → Small-told 65_536 (first sound (loop-record l))
+unfolding loop-record
+loop-told l short = told-more (length l) (first sound (loop-record l)) short (sound-told (loop-record l) loop-known)
+
+judged-size : (t : Told) (l rest : List ℕ) → first sound (loop-record l) ≡ t → length l ≤ 65_536 → length rest ≤ 65_536 → length (judged t l rest) ≤ 46 * length rest + 300
+unfolding judged
+judged-size done l rest e short rest-short =
+    rw (length-append, line-loop)
+    (omega (
+      arith,
+      length-pair (decimal (variables-in l)) (decimal (rows-in l)),
+      decimal-length 1 (variables-in l) (omega (arith, few-variables l e)),
+      decimal-length 1 (rows-in l) (omega (arith, few-rows l e)),
+      lines-size l e (length rest) 1 rest (omega arith) (omega arith) rest-short,
+    ))
+judged-size (refused number place) l rest e short rest-short =
+    let small : Small-told 65_536 (refused number place) = rw e at (loop-told l short) in
+    rw line-loop (omega (arith, refusal-size number place (record { one-digit = small .0; near = small .1 })))
+
+-- no text is longer than the worst case of its input's length
+pub never-longer : (input : List ℕ) → length (sheet-text input) ≤ worst (length input)
+unfolding line bytes
+never-longer input = by-length (decLt 65_536 (length input))
+  where
+    by-length : Dec (65_536 < length input) → length (sheet-text input) ≤ 46 * min (length input) 65_536 + 300
+    by-length (yes long) = rw (text-too-long input long) (omega arith)
+    by-length (no short) =
+        let within : length input ≤ 65_536 = omega arith in
+        let first-short = first-length input in
+        let rest-short = rest-length input in
+        rw (text-judged input within) (omega (arith, judged-size (first sound (loop-record (first-record input))) (first-record input) (after-first input) refl (omega arith) (omega arith)))

@@ -1,0 +1,11 @@
+-- One name that opens every definition of the sheet's text, so that a sample is proved by computing it.
+use Rattle.decimal.specs.Decimals as Decimals
+use Rattle.verdict.specs.Computing as Verdicts
+use Rattle.sheet_lines.specs.VerdictLines as VerdictLines
+use Rattle.sheet_lines.specs.Words as Words
+use Rattle.sheet_text.specs.Parting as Parting
+use Rattle.sheet_text.specs.Sheets as Sheets
+
+unfoldable pub computing : Unit {0}
+unfolding Verdicts.computing Decimals.figures Decimals.decimal Decimals.signed-decimal Words.bytes Words.line Parting.stated Parting.whole-first Parting.taken Parting.first-record Parting.after-first Parting.up-to Parting.records VerdictLines.rank-words VerdictLines.outcome-words VerdictLines.verdict-line Sheets.lent Sheets.variables-in Sheets.rows-in Sheets.certificate-line Sheets.lines Sheets.judged Sheets.sheet-text
+computing = tt
