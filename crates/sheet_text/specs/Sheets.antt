@@ -1,6 +1,5 @@
 -- 01, "The program "sheet"": the whole text as a function of the whole input, for every input; and what the call answers for every room.
 -- The verdicts are those of crate `verdict`. A judge is lent 16 places, for the n entries of r at most.
-use mathlib.Core.Path.{_≡_}
 use Prim.Native.Nat.{ℕ, suc, _+_, _*_, min}
 use mathlib.Core.Bool.{true, false}
 use mathlib.Core.List.{List, [], _∷_, _++_}
@@ -29,12 +28,6 @@ variables-in loop = counts-read (loop-record loop) .n
 
 unfoldable pub rows-in : List ℕ → ℕ
 rows-in loop = counts-read (loop-record loop) .m
-
--- bytes that hold a sound loop of n variables and m rows
-pub record Sound-loop (loop : List ℕ) (n m : ℕ) : Type 0 where
-  pub is-sound : first sound (loop-record loop) ≡ done
-  pub n-is : n ≡ variables-in loop
-  pub m-is : m ≡ rows-in loop
 
 -- the line of a certificate for a loop: its verdict, and the n entries of r, which an accepted rank leaves at the front of the list
 unfoldable pub certificate-line : List ℕ → ℕ → List ℕ → List ℕ
