@@ -1,0 +1,202 @@
+// The door for C and Rust: each call of the library under a name that a linker finds, with answers whose fields are numbers. Nothing
+// is asked of a caller, and each answer is the proved call's, flattened as specs/Flat.antt says.
+use record::Reading;
+use record::Writing;
+use verdict::Bounded;
+use verdict::Grade;
+use verdict::Outcome;
+use verdict::Verdict;
+ghost use mathlib.Core.Path.{_≡_};
+ghost use Rattle.record.specs.Readers.{loop-reader, certificate-reader, reads, fills};
+ghost use Rattle.record.specs.Writers.{writer, writes, room-after};
+ghost use Rattle.verdict.specs.Bounding.{bounds, bound-of};
+ghost use Rattle.verdict.specs.Judging.{judges, rank-after, judge-of};
+ghost use Rattle.sheet_text.specs.Sheets.{sheet-answers, room-after as text-after};
+ghost use Rattle.rip.specs.Flat.{flat-reading, flat-writing, told, flat-verdict, flat-bounded};
+
+// ---- answers as C gets them
+
+// The answer of a reading.
+#[repr(C)]
+pub struct FlatReading {
+    pub number: usize,
+    pub place: usize,
+    pub kind: usize,
+    pub n: usize,
+    pub m: usize,
+    pub count: usize,
+}
+
+// The answer of a writing.
+#[repr(C)]
+pub struct FlatWriting {
+    pub number: usize,
+    pub place: usize,
+    pub written: usize,
+}
+
+// The answer of judging: the outcome is 0 nothing, 2 ranking, 3 exclusion, 4 lasso; the grade 0 none, 1 whole, 2 fractions.
+#[repr(C)]
+pub struct FlatVerdict {
+    pub number: usize,
+    pub place: usize,
+    pub record: usize,
+    pub outcome: usize,
+    pub start: i64,
+    pub fall: i64,
+    pub grade: usize,
+}
+
+// The answer of a bound: judging's, and the bound beside it.
+#[repr(C)]
+pub struct FlatBounded {
+    pub number: usize,
+    pub place: usize,
+    pub record: usize,
+    pub outcome: usize,
+    pub start: i64,
+    pub fall: i64,
+    pub grade: usize,
+    pub bound: usize,
+}
+
+// ---- flattening
+
+fn flat_reading(r: Reading) -> FlatReading
+    ensures { λ f. ⌜ f ≡ flat-reading r ⌝ }
+{
+    FlatReading {
+        number: r.number,
+        place: r.place,
+        kind: r.kind,
+        n: r.n,
+        m: r.m,
+        count: r.count,
+    }
+}
+
+fn flat_writing(w: Writing) -> FlatWriting
+    ensures { λ f. ⌜ f ≡ flat-writing w ⌝ }
+{
+    FlatWriting {
+        number: w.number,
+        place: w.place,
+        written: w.written,
+    }
+}
+
+// A verdict whose outcome is given in numbers.
+fn flat_told(v: Verdict, outcome: usize, start: i64, fall: i64, grade: usize) -> FlatVerdict
+    ensures { λ f. ⌜ f ≡ told v (record { kind = outcome; start = start; fall = fall; grade = grade }) ⌝ }
+{
+    FlatVerdict {
+        number: v.number,
+        place: v.place,
+        record: v.about,
+        outcome: outcome,
+        start: start,
+        fall: fall,
+        grade: grade,
+    }
+}
+
+fn flat_verdict(v: Verdict) -> FlatVerdict
+    ensures { λ f. ⌜ f ≡ flat-verdict v ⌝ }
+{
+    let outcome = v.outcome;
+    match outcome {
+        Outcome::Nothing => flat_told(v, 0, 0, 0, 0),
+        Outcome::Ranking { start, fall } => flat_told(v, 2, start, fall, 0),
+        Outcome::Exclusion { grade } => match grade {
+            Grade::Whole => flat_told(v, 3, 0, 0, 1),
+            Grade::Fractions => flat_told(v, 3, 0, 0, 2),
+        },
+        Outcome::Lasso { start, fall } => flat_told(v, 4, start, fall, 0),
+    }
+}
+
+fn flat_bounded(b: Bounded) -> FlatBounded
+    ensures { λ f. ⌜ f ≡ flat-bounded b ⌝ }
+{
+    let v = flat_verdict(b.verdict);
+    FlatBounded {
+        number: v.number,
+        place: v.place,
+        record: v.record,
+        outcome: v.outcome,
+        start: v.start,
+        fall: v.fall,
+        grade: v.grade,
+        bound: b.bound,
+    }
+}
+
+// ---- records
+
+// Reads a loop record.
+#[no_mangle]
+pub extern "C" fn cushiedoo_read_loop(bytes: &[u8], values: &mut [i64]) -> FlatReading
+    ensures { λ r. ⌜ r ≡ flat-reading (reads (loop-reader (now (bytes .entry)) (now (values .entry)))) ⌝ }
+    ensures { λ _. ⌜ now (values .exit) ≡ fills (loop-reader (now (bytes .entry)) (now (values .entry))) (now (values .entry)) ⌝ }
+{
+    flat_reading(reading::read_loop(bytes, values))
+}
+
+// Reads a certificate record for a loop over n variables with m rows.
+#[no_mangle]
+pub extern "C" fn cushiedoo_read_certificate(
+    bytes: &[u8],
+    n: usize,
+    m: usize,
+    values: &mut [i64],
+) -> FlatReading
+    ensures { λ r. ⌜ r ≡ flat-reading (reads (certificate-reader (now (bytes .entry)) n m (now (values .entry)))) ⌝ }
+    ensures { λ _. ⌜ now (values .exit) ≡ fills (certificate-reader (now (bytes .entry)) n m (now (values .entry))) (now (values .entry)) ⌝ }
+{
+    flat_reading(reading::read_certificate(bytes, n, m, values))
+}
+
+// Writes a record.
+#[no_mangle]
+pub extern "C" fn cushiedoo_write_record(
+    kind: usize,
+    n: usize,
+    m: usize,
+    values: &[i64],
+    room: &mut [u8],
+) -> FlatWriting
+    ensures { λ r. ⌜ r ≡ flat-writing (writes (writer kind n m (now (values .entry)) (now (room .entry)))) ⌝ }
+    ensures { λ _. ⌜ now (room .exit) ≡ room-after (writer kind n m (now (values .entry)) (now (room .entry))) (now (room .entry)) ⌝ }
+{
+    flat_writing(writing::write_record(kind, n, m, values, room))
+}
+
+// ---- verdicts
+
+// Judges a certificate's bytes for a loop's bytes.
+#[no_mangle]
+pub extern "C" fn cushiedoo_judge(rows: &[u8], certificate: &[u8], rank: &mut [i64]) -> FlatVerdict
+    ensures { λ r. ⌜ r ≡ flat-verdict (judges (judge-of (now (rows .entry)) (now (certificate .entry)) (now (rank .entry)))) ⌝ }
+    ensures { λ _. ⌜ now (rank .exit) ≡ rank-after (judge-of (now (rows .entry)) (now (certificate .entry)) (now (rank .entry))) (now (rank .entry)) ⌝ }
+{
+    flat_verdict(judge::judge(rows, certificate, rank))
+}
+
+// Tells how many steps a loop can take from a state, by a certificate that has a rank.
+#[no_mangle]
+pub extern "C" fn cushiedoo_bound(rows: &[u8], certificate: &[u8], state: &[i64]) -> FlatBounded
+    ensures { λ r. ⌜ r ≡ flat-bounded (bounds (bound-of (now (rows .entry)) (now (certificate .entry)) (now (state .entry)))) ⌝ }
+{
+    flat_bounded(bound::bound(rows, certificate, state))
+}
+
+// ---- the sheet
+
+// Writes the text of a sheet.
+#[no_mangle]
+pub extern "C" fn cushiedoo_sheet(input: &[u8], text: &mut [u8]) -> FlatWriting
+    ensures { λ r. ⌜ r ≡ flat-writing (sheet-answers (now (input .entry)) (now (text .entry))) ⌝ }
+    ensures { λ _. ⌜ now (text .exit) ≡ text-after (now (input .entry)) (now (text .entry)) ⌝ }
+{
+    flat_writing(sheet_text::sheet(input, text))
+}
