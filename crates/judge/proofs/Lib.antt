@@ -4,3 +4,4 @@ pub mod Sizes
 pub mod Ways
 pub mod ByKind
 pub mod Entered
+pub mod OneAnswer
