@@ -1,0 +1,464 @@
+/*
+ * The one-pass C implementation that the archive is measured against: scalar code, nothing unpacked. Each row of the
+ * loop is visited once; the visit tests its entries and adds them to the column totals straight from the bytes. It
+ * answers as the archive does, on every input.
+ */
+#include <stdbool.h>
+#include <string.h>
+
+#include "cushiedoo.h"
+
+enum { MOST_VARIABLES = 16, MOST_ROWS = 64 };
+
+static inline uint32_t u16_at(const uint8_t *p) { return (uint32_t)p[0] | (uint32_t)p[1] << 8; }
+
+static inline uint32_t u32_at(const uint8_t *p) { return u16_at(p) | u16_at(p + 2) << 16; }
+
+static inline int64_t i16_at(const uint8_t *p) { return (int16_t)u16_at(p); }
+
+static inline int64_t i32_at(const uint8_t *p) { return (int32_t)u32_at(p); }
+
+static inline int entry_bad(int64_t entry) { return (uint64_t)(entry + 30000) > 60000; }
+
+static inline int right_bad(int64_t right) { return (uint64_t)(right + 1000000) > 2000000; }
+
+static inline int direction_bad(int64_t value) { return (uint64_t)(value + 60000) > 120000; }
+
+static inline int multiplier_bad(int64_t value) { return value > 60000; }
+
+static inline int scale_bad(int64_t value) { return value < 1 || value > 60000; }
+
+/* A refusal's number and place; number 0 is none. */
+typedef struct {
+    uint64_t number, place;
+} fault;
+
+static const fault none = {0, 0};
+
+static fault fault_of(uint64_t number, uint64_t place)
+{
+    fault told = {number, place};
+    return told;
+}
+
+/* What one pass over both records finds out. */
+typedef struct {
+    fault loop, certificate;
+    uint64_t kind, n;
+    bool holds;
+    int64_t r[MOST_VARIABLES], start, fall;
+    uint64_t grade;
+    const uint8_t *s; /* of a lasso: where s and s0 stand */
+} found;
+
+/* The tests of a record's bytes against the L that it states. */
+static fault frame(const uint8_t *bytes, size_t len)
+{
+    if (len < 4) return fault_of(1, len);
+    uint64_t length = u32_at(bytes);
+    if (length < 2) return fault_of(3, 0);
+    if (len < 4 + length) return fault_of(1, len);
+    if (len > 4 + length) return fault_of(2, 4 + length);
+    return none;
+}
+
+static fault loop_frame(const uint8_t *bytes, size_t len, uint64_t *n, uint64_t *m)
+{
+    fault framed = frame(bytes, len);
+    if (framed.number) return framed;
+    if (u16_at(bytes + 4) != 1) return fault_of(4, 4);
+    if (len < 10) return fault_of(3, 0);
+    *n = u16_at(bytes + 6);
+    *m = u16_at(bytes + 8);
+    if (*n < 1 || *n > MOST_VARIABLES) return fault_of(5, 6);
+    if (*m > MOST_ROWS) return fault_of(5, 8);
+    if (len != 10 + *m * (4 * *n + 4)) return fault_of(3, 0);
+    return none;
+}
+
+static fault certificate_frame(const uint8_t *bytes, size_t len, bool exclusions, uint64_t n, uint64_t m,
+                               uint64_t *kind, uint64_t *ms)
+{
+    fault framed = frame(bytes, len);
+    if (framed.number) return framed;
+    *kind = u16_at(bytes + 4);
+    *ms = 0;
+    switch (*kind) {
+    case 2: return len == 6 + 4 * m ? none : fault_of(3, 0);
+    case 3:
+        if (!exclusions) return fault_of(4, 4);
+        return len == 8 + 12 * n ? none : fault_of(3, 0);
+    case 4:
+        if (len < 8) return fault_of(3, 0);
+        *ms = u16_at(bytes + 6);
+        if (*ms > MOST_ROWS) return fault_of(5, 6);
+        return len == 22 + 2 * n + *ms * (4 * n + 6) + 6 * m ? none : fault_of(3, 0);
+    default: return fault_of(4, 4);
+    }
+}
+
+/* The first value of a row that is out of range; called when there is one. */
+static fault row_fault(const uint8_t *row, uint64_t n, uint64_t place)
+{
+    for (uint64_t j = 0; j < 2 * n; j++)
+        if (entry_bad(i16_at(row + 2 * j))) return fault_of(6, place + 2 * j);
+    return fault_of(6, place + 4 * n);
+}
+
+/* The first of some multipliers that is out of range. */
+static fault multiplier_fault(const uint8_t *bytes, uint64_t place, uint64_t count)
+{
+    for (uint64_t i = 0; i < count; i++)
+        if (multiplier_bad(u16_at(bytes + place + 2 * i))) return fault_of(6, place + 2 * i);
+    return none;
+}
+
+/* The first row with a value out of range. */
+static fault rows_fault(const uint8_t *bytes, uint64_t place, uint64_t n, uint64_t count)
+{
+    for (uint64_t i = 0; i < count; i++, place += 4 * n + 4) {
+        int bad = right_bad(i32_at(bytes + place + 4 * n));
+        for (uint64_t j = 0; j < 2 * n; j++) bad |= entry_bad(i16_at(bytes + place + 2 * j));
+        if (bad) return row_fault(bytes + place, n, place);
+    }
+    return none;
+}
+
+/* The column totals of a ranking. */
+typedef struct {
+    int64_t ya_next[MOST_VARIABLES], difference[MOST_VARIABLES], both[MOST_VARIABLES], za_next[MOST_VARIABLES];
+    int64_t yb, zb;
+} ranking_totals;
+
+/* Adds one row with its weights; tells whether a value of it is out of range. */
+static inline int add_row(ranking_totals *totals, const uint8_t *row, uint64_t n, int64_t y, int64_t z)
+{
+    int bad = 0;
+    for (uint64_t j = 0; j < n; j++) {
+        int64_t now = i16_at(row + 2 * j), next = i16_at(row + 2 * n + 2 * j);
+        bad |= entry_bad(now) | entry_bad(next);
+        totals->ya_next[j] += y * next;
+        totals->difference[j] += (y - z) * now;
+        totals->both[j] += z * (now + next);
+        totals->za_next[j] += z * next;
+    }
+    int64_t right = i32_at(row + 4 * n);
+    totals->yb += y * right;
+    totals->zb += z * right;
+    return bad | right_bad(right);
+}
+
+static void clear_totals(ranking_totals *totals, uint64_t n)
+{
+    for (uint64_t j = 0; j < n; j++)
+        totals->ya_next[j] = totals->difference[j] = totals->both[j] = totals->za_next[j] = 0;
+    totals->yb = totals->zb = 0;
+}
+
+static void conclude(found *told, const ranking_totals *totals, bool holds)
+{
+    int64_t any = 0;
+    for (uint64_t j = 0; j < told->n; j++) {
+        any |= totals->ya_next[j] | totals->difference[j] | totals->both[j];
+        told->r[j] = totals->za_next[j];
+    }
+    told->holds = holds && any == 0 && totals->zb < 0;
+    told->start = -totals->yb;
+    told->fall = -totals->zb;
+}
+
+static void pass_ranking(found *told, const uint8_t *loop, uint64_t m, const uint8_t *certificate)
+{
+    uint64_t n = told->n, width = 4 * n + 4;
+    int weights_bad = 0;
+    ranking_totals totals;
+    clear_totals(&totals, n);
+    for (uint64_t i = 0; i < m; i++) {
+        const uint8_t *row = loop + 10 + i * width;
+        int64_t y = u16_at(certificate + 6 + 2 * i), z = u16_at(certificate + 6 + 2 * m + 2 * i);
+        weights_bad |= multiplier_bad(y) | multiplier_bad(z);
+        if (add_row(&totals, row, n, y, z)) {
+            told->loop = row_fault(row, n, 10 + i * width);
+            return;
+        }
+    }
+    if (weights_bad) told->certificate = multiplier_fault(certificate, 6, 2 * m);
+    conclude(told, &totals, true);
+}
+
+static fault exclusion_fault(const uint8_t *certificate, uint64_t n)
+{
+    if (scale_bad(u16_at(certificate + 6))) return fault_of(6, 6);
+    for (uint64_t j = 0; j < 3 * n; j++)
+        if (direction_bad(i32_at(certificate + 8 + 4 * j))) return fault_of(6, 8 + 4 * j);
+    return none;
+}
+
+static void pass_exclusion(found *told, const uint8_t *loop, uint64_t m, const uint8_t *certificate)
+{
+    uint64_t n = told->n, width = 4 * n + 4;
+    int64_t q = u16_at(certificate + 6);
+    const uint8_t *u = certificate + 8, *v = u + 4 * n, *w = v + 4 * n;
+    bool holds = true;
+    told->certificate = exclusion_fault(certificate, n);
+    if (told->certificate.number) {
+        told->loop = rows_fault(loop, 10, n, m);
+        return;
+    }
+    for (uint64_t i = 0; i < m; i++) {
+        const uint8_t *row = loop + 10 + i * width;
+        int64_t direction = 0, step = 0, right = i32_at(row + 4 * n);
+        int bad = right_bad(right);
+        for (uint64_t j = 0; j < n; j++) {
+            int64_t now = i16_at(row + 2 * j), next = i16_at(row + 2 * n + 2 * j);
+            int64_t along = i32_at(v + 4 * j), to = i32_at(w + 4 * j);
+            bad |= entry_bad(now) | entry_bad(next);
+            direction += now * along + next * i32_at(u + 4 * j);
+            step += now * (to - along) + next * to;
+        }
+        if (bad) {
+            told->loop = row_fault(row, n, 10 + i * width);
+            return;
+        }
+        holds &= (direction <= 0) & (step <= q * right);
+    }
+    told->holds = holds;
+    told->grade = q == 1 ? CUSHIEDOO_WHOLE : CUSHIEDOO_FRACTIONS;
+}
+
+/* Where the parts of a lasso stand. */
+typedef struct {
+    uint64_t ms, s, s0, k, t, k2, h, h0, y, z;
+} lasso_places;
+
+static lasso_places places_of(uint64_t n, uint64_t m, uint64_t ms)
+{
+    lasso_places at;
+    at.ms = ms;
+    at.s = 8 + ms * (4 * n + 4);
+    at.s0 = at.s + 2 * n;
+    at.k = at.s0 + 4;
+    at.t = at.k + 2;
+    at.k2 = at.t + 2 * ms;
+    at.h = at.k2 + 2;
+    at.h0 = at.h + 2 * m;
+    at.y = at.h0 + 2;
+    at.z = at.y + 2 * (m + 1);
+    return at;
+}
+
+/* The first value after the stem rows that is out of range. */
+static fault lasso_fault(const uint8_t *bytes, const lasso_places *at, uint64_t n, uint64_t m)
+{
+    fault told;
+    for (uint64_t j = 0; j < n; j++)
+        if (entry_bad(i16_at(bytes + at->s + 2 * j))) return fault_of(6, at->s + 2 * j);
+    if (right_bad(i32_at(bytes + at->s0))) return fault_of(6, at->s0);
+    if (scale_bad(u16_at(bytes + at->k))) return fault_of(6, at->k);
+    told = multiplier_fault(bytes, at->t, at->ms);
+    if (told.number) return told;
+    if (scale_bad(u16_at(bytes + at->k2))) return fault_of(6, at->k2);
+    return multiplier_fault(bytes, at->h, m + 1 + 2 * (m + 1));
+}
+
+/* The column totals of one weighted list of rows. */
+typedef struct {
+    int64_t now[MOST_VARIABLES], next[MOST_VARIABLES], right;
+} part_totals;
+
+static void clear_part(part_totals *part, uint64_t n)
+{
+    for (uint64_t j = 0; j < n; j++) part->now[j] = part->next[j] = 0;
+    part->right = 0;
+}
+
+/* Whether the totals are (h s, -k s) and at most (k - h) s0. */
+static bool part_holds(const part_totals *part, const uint8_t *s, uint64_t n, int64_t k, int64_t h)
+{
+    int64_t s0 = i32_at(s + 2 * n), any = 0;
+    for (uint64_t j = 0; j < n; j++) {
+        int64_t entry = i16_at(s + 2 * j);
+        any |= (part->now[j] - h * entry) | (part->next[j] + k * entry);
+    }
+    return any == 0 && part->right <= (k - h) * s0;
+}
+
+/* The pass over the stem: TB, TB', Td. */
+static fault pass_stem(part_totals *part, const uint8_t *certificate, const lasso_places *at, uint64_t n)
+{
+    uint64_t width = 4 * n + 4;
+    clear_part(part, n);
+    for (uint64_t i = 0; i < at->ms; i++) {
+        const uint8_t *row = certificate + 8 + i * width;
+        int64_t t = u16_at(certificate + at->t + 2 * i), right = i32_at(row + 4 * n);
+        int bad = right_bad(right);
+        for (uint64_t j = 0; j < n; j++) {
+            int64_t now = i16_at(row + 2 * j), next = i16_at(row + 2 * n + 2 * j);
+            bad |= entry_bad(now) | entry_bad(next);
+            part->now[j] += t * now;
+            part->next[j] += t * next;
+        }
+        part->right += t * right;
+        if (bad) return row_fault(row, n, 8 + i * width);
+    }
+    return none;
+}
+
+/* Adds one loop row to the ranking's totals and to those of "kept". */
+static inline int add_kept_row(ranking_totals *totals, part_totals *kept, const uint8_t *row, uint64_t n, int64_t h,
+                                int64_t y, int64_t z)
+{
+    int bad = 0;
+    for (uint64_t j = 0; j < n; j++) {
+        int64_t now = i16_at(row + 2 * j), next = i16_at(row + 2 * n + 2 * j);
+        bad |= entry_bad(now) | entry_bad(next);
+        kept->now[j] += h * now;
+        kept->next[j] += h * next;
+        totals->ya_next[j] += y * next;
+        totals->difference[j] += (y - z) * now;
+        totals->both[j] += z * (now + next);
+        totals->za_next[j] += z * next;
+    }
+    int64_t right = i32_at(row + 4 * n);
+    kept->right += h * right;
+    totals->yb += y * right;
+    totals->zb += z * right;
+    return bad | right_bad(right);
+}
+
+/* Adds the row -s.x <= s0 with its weights. */
+static void add_invariant(ranking_totals *totals, const uint8_t *s, uint64_t n, int64_t y, int64_t z)
+{
+    int64_t s0 = i32_at(s + 2 * n);
+    for (uint64_t j = 0; j < n; j++) {
+        int64_t entry = i16_at(s + 2 * j);
+        totals->difference[j] -= (y - z) * entry;
+        totals->both[j] -= z * entry;
+    }
+    totals->yb += y * s0;
+    totals->zb += z * s0;
+}
+
+static void pass_lasso(found *told, const uint8_t *loop, uint64_t m, const uint8_t *certificate, uint64_t ms)
+{
+    uint64_t n = told->n, width = 4 * n + 4;
+    lasso_places at = places_of(n, m, ms);
+    const uint8_t *s = certificate + at.s;
+    part_totals kept, stem;
+    ranking_totals totals;
+    clear_part(&kept, n);
+    clear_totals(&totals, n);
+    for (uint64_t i = 0; i < m; i++) {
+        const uint8_t *row = loop + 10 + i * width;
+        int64_t h = u16_at(certificate + at.h + 2 * i), y = u16_at(certificate + at.y + 2 * i);
+        if (add_kept_row(&totals, &kept, row, n, h, y, u16_at(certificate + at.z + 2 * i))) {
+            told->loop = row_fault(row, n, 10 + i * width);
+            return;
+        }
+    }
+    told->certificate = pass_stem(&stem, certificate, &at, n);
+    if (told->certificate.number) return;
+    told->certificate = lasso_fault(certificate, &at, n, m);
+    if (told->certificate.number) return;
+    add_invariant(&totals, s, n, u16_at(certificate + at.y + 2 * m), u16_at(certificate + at.z + 2 * m));
+    told->s = s;
+    conclude(told, &totals,
+             part_holds(&stem, s, n, u16_at(certificate + at.k), 0) &&
+                 part_holds(&kept, s, n, u16_at(certificate + at.k2), u16_at(certificate + at.h0)));
+}
+
+static void pass(found *told, const uint8_t *loop, size_t loop_len, const uint8_t *certificate, size_t certificate_len,
+                 bool exclusions)
+{
+    uint64_t m = 0, ms = 0;
+    told->certificate = none;
+    told->loop = loop_frame(loop, loop_len, &told->n, &m);
+    if (told->loop.number) return;
+    told->certificate = certificate_frame(certificate, certificate_len, exclusions, told->n, m, &told->kind, &ms);
+    if (told->certificate.number) {
+        told->loop = rows_fault(loop, 10, told->n, m);
+        return;
+    }
+    switch (told->kind) {
+    case 2: pass_ranking(told, loop, m, certificate); break;
+    case 3: pass_exclusion(told, loop, m, certificate); break;
+    default: pass_lasso(told, loop, m, certificate, ms);
+    }
+}
+
+static cushiedoo_verdict refused(uint64_t number, uint64_t place, uint64_t record)
+{
+    cushiedoo_verdict verdict = {0, 0, 0, 0, 0, 0, 0};
+    verdict.number = number;
+    verdict.place = place;
+    verdict.record = record;
+    return verdict;
+}
+
+static cushiedoo_verdict accepted(const found *told)
+{
+    cushiedoo_verdict verdict = {0, 0, 0, 0, 0, 0, 0};
+    verdict.outcome = told->kind;
+    if (told->kind == CUSHIEDOO_EXCLUSION) {
+        verdict.grade = told->grade;
+    } else {
+        verdict.start = told->start;
+        verdict.fall = told->fall;
+    }
+    return verdict;
+}
+
+cushiedoo_verdict onepass_judge(const uint8_t *loop, size_t loop_len, const uint8_t *certificate,
+                                size_t certificate_len, int64_t *rank, size_t rank_len)
+{
+    found told;
+    pass(&told, loop, loop_len, certificate, certificate_len, true);
+    if (told.loop.number) return refused(told.loop.number, told.loop.place, 1);
+    if (told.certificate.number) return refused(told.certificate.number, told.certificate.place, 2);
+    bool ranked = told.kind != CUSHIEDOO_EXCLUSION;
+    if (ranked && rank_len < told.n) return refused(7, told.n, 0);
+    if (!told.holds) return refused(8, 0, 2);
+    if (ranked) memcpy(rank, told.r, told.n * sizeof *rank);
+    return accepted(&told);
+}
+
+static cushiedoo_bounded unbounded(cushiedoo_verdict verdict)
+{
+    cushiedoo_bounded bounded;
+    memcpy(&bounded, &verdict, sizeof verdict);
+    bounded.bound = 0;
+    return bounded;
+}
+
+/* Whether s.x + s0 >= 0. */
+static bool invariant_holds(const uint8_t *s, const int64_t *state, uint64_t n)
+{
+    int64_t sum = i32_at(s + 2 * n);
+    for (uint64_t j = 0; j < n; j++) sum += i16_at(s + 2 * j) * state[j];
+    return sum >= 0;
+}
+
+static uint64_t bound_at(const found *told, const int64_t *state)
+{
+    int64_t over = -told->start;
+    for (uint64_t j = 0; j < told->n; j++) over += told->r[j] * state[j];
+    return over < 0 ? 0 : (uint64_t)(over / told->fall) + 1;
+}
+
+cushiedoo_bounded onepass_bound(const uint8_t *loop, size_t loop_len, const uint8_t *certificate,
+                                size_t certificate_len, const int64_t *state, size_t state_len)
+{
+    found told;
+    cushiedoo_bounded bounded;
+    pass(&told, loop, loop_len, certificate, certificate_len, false);
+    if (told.loop.number) return unbounded(refused(told.loop.number, told.loop.place, 1));
+    if (told.certificate.number) return unbounded(refused(told.certificate.number, told.certificate.place, 2));
+    if (state_len != told.n) return unbounded(refused(10, state_len, 0));
+    for (uint64_t j = 0; j < told.n; j++)
+        if (state[j] < -1000000 || state[j] > 1000000) return unbounded(refused(9, j, 0));
+    if (!told.holds) return unbounded(refused(8, 0, 2));
+    if (told.kind == CUSHIEDOO_LASSO && !invariant_holds(told.s, state, told.n)) return unbounded(refused(11, 0, 2));
+    bounded = unbounded(accepted(&told));
+    bounded.bound = bound_at(&told, state);
+    return bounded;
+}

@@ -1,0 +1,475 @@
+//! The plain Rust implementation that the archive is measured against. It parses once into fixed arrays, allocates
+//! nothing, stops at the first fault, and then computes; there is no trick in it. Numbers are held as i64, the type of
+//! the value lists. It answers as the archive does.
+
+use cushiedoo::raw::{Bounded, Verdict};
+
+const MOST_VARIABLES: usize = 16;
+const MOST_ROWS: usize = 64;
+
+/// A refusal's number and place.
+type Fault = (u64, u64);
+/// A refusal's number, its place and the record that it speaks of.
+type Refused = (u64, u64, u64);
+
+/// Rows in fixed arrays.
+struct Rows {
+    count: usize,
+    now: [[i64; MOST_VARIABLES]; MOST_ROWS],
+    next: [[i64; MOST_VARIABLES]; MOST_ROWS],
+    right: [i64; MOST_ROWS],
+}
+
+impl Rows {
+    const NONE: Rows = Rows {
+        count: 0,
+        now: [[0; MOST_VARIABLES]; MOST_ROWS],
+        next: [[0; MOST_VARIABLES]; MOST_ROWS],
+        right: [0; MOST_ROWS],
+    };
+}
+
+/// Multipliers in a fixed array; a lasso has one more than there are rows.
+type Multipliers = [i64; MOST_ROWS + 1];
+type Entries = [i64; MOST_VARIABLES];
+
+const NO_MULTIPLIERS: Multipliers = [0; MOST_ROWS + 1];
+const NO_ENTRIES: Entries = [0; MOST_VARIABLES];
+
+/// Takes numbers from bytes one after another; the length was tested before.
+struct Cursor<'a> {
+    bytes: &'a [u8],
+    place: usize,
+}
+
+impl Cursor<'_> {
+    fn checked(&mut self, value: i64, width: usize, low: i64, high: i64) -> Result<i64, Fault> {
+        if value < low || value > high {
+            return Err((6, self.place as u64));
+        }
+        self.place += width;
+        Ok(value)
+    }
+
+    fn u16(&mut self, low: i64, high: i64) -> Result<i64, Fault> {
+        let at = &self.bytes[self.place..self.place + 2];
+        let value = u16::from_le_bytes([at[0], at[1]]);
+        self.checked(value.into(), 2, low, high)
+    }
+
+    fn entry(&mut self) -> Result<i64, Fault> {
+        let at = &self.bytes[self.place..self.place + 2];
+        let value = i16::from_le_bytes([at[0], at[1]]);
+        self.checked(value.into(), 2, -30_000, 30_000)
+    }
+
+    fn i32(&mut self, size: i64) -> Result<i64, Fault> {
+        let at = &self.bytes[self.place..self.place + 4];
+        let value = i32::from_le_bytes([at[0], at[1], at[2], at[3]]);
+        self.checked(value.into(), 4, -size, size)
+    }
+
+    fn scale(&mut self) -> Result<i64, Fault> {
+        self.u16(1, 60_000)
+    }
+
+    fn multipliers(&mut self, list: &mut [i64]) -> Result<(), Fault> {
+        for multiplier in list {
+            *multiplier = self.u16(0, 60_000)?;
+        }
+        Ok(())
+    }
+
+    fn entries(&mut self, list: &mut [i64]) -> Result<(), Fault> {
+        for entry in list {
+            *entry = self.entry()?;
+        }
+        Ok(())
+    }
+
+    fn directions(&mut self, list: &mut [i64]) -> Result<(), Fault> {
+        for entry in list {
+            *entry = self.i32(60_000)?;
+        }
+        Ok(())
+    }
+
+    fn rows(&mut self, rows: &mut Rows, n: usize, count: usize) -> Result<(), Fault> {
+        rows.count = count;
+        for i in 0..count {
+            self.entries(&mut rows.now[i][..n])?;
+            self.entries(&mut rows.next[i][..n])?;
+            rows.right[i] = self.i32(1_000_000)?;
+        }
+        Ok(())
+    }
+}
+
+fn u16_at(bytes: &[u8], place: usize) -> usize {
+    u16::from_le_bytes([bytes[place], bytes[place + 1]]).into()
+}
+
+/// The record's kind, once its bytes are as many as it states.
+fn framed_kind(bytes: &[u8]) -> Result<usize, Fault> {
+    let count = bytes.len() as u64;
+    if count < 4 {
+        return Err((1, count));
+    }
+    let length = u64::from(u32::from_le_bytes([bytes[0], bytes[1], bytes[2], bytes[3]]));
+    if length < 2 {
+        return Err((3, 0));
+    }
+    if count < 4 + length {
+        return Err((1, count));
+    }
+    if count > 4 + length {
+        return Err((2, 4 + length));
+    }
+    Ok(u16_at(bytes, 4))
+}
+
+/// The loop's n and m, once its length is that of its counts.
+fn loop_counts(bytes: &[u8]) -> Result<(usize, usize), Fault> {
+    if framed_kind(bytes)? != 1 {
+        return Err((4, 4));
+    }
+    if bytes.len() < 10 {
+        return Err((3, 0));
+    }
+    let (n, m) = (u16_at(bytes, 6), u16_at(bytes, 8));
+    if !(1..=MOST_VARIABLES).contains(&n) {
+        return Err((5, 6));
+    }
+    if m > MOST_ROWS {
+        return Err((5, 8));
+    }
+    if bytes.len() != 10 + m * (4 * n + 4) {
+        return Err((3, 0));
+    }
+    Ok((n, m))
+}
+
+fn parse_loop(bytes: &[u8], rows: &mut Rows, n: usize, m: usize) -> Result<(), Fault> {
+    Cursor { bytes, place: 10 }.rows(rows, n, m)
+}
+
+struct Ranking {
+    y: Multipliers,
+    z: Multipliers,
+}
+
+fn parse_ranking(bytes: &[u8], m: usize) -> Result<Ranking, Fault> {
+    if bytes.len() != 6 + 4 * m {
+        return Err((3, 0));
+    }
+    let mut ranking = Ranking {
+        y: NO_MULTIPLIERS,
+        z: NO_MULTIPLIERS,
+    };
+    let mut cursor = Cursor { bytes, place: 6 };
+    cursor.multipliers(&mut ranking.y[..m])?;
+    cursor.multipliers(&mut ranking.z[..m])?;
+    Ok(ranking)
+}
+
+struct Exclusion {
+    q: i64,
+    u: Entries,
+    v: Entries,
+    w: Entries,
+}
+
+fn parse_exclusion(bytes: &[u8], n: usize) -> Result<Exclusion, Fault> {
+    if bytes.len() != 8 + 12 * n {
+        return Err((3, 0));
+    }
+    let mut cursor = Cursor { bytes, place: 6 };
+    let mut exclusion = Exclusion {
+        q: cursor.scale()?,
+        u: NO_ENTRIES,
+        v: NO_ENTRIES,
+        w: NO_ENTRIES,
+    };
+    cursor.directions(&mut exclusion.u[..n])?;
+    cursor.directions(&mut exclusion.v[..n])?;
+    cursor.directions(&mut exclusion.w[..n])?;
+    Ok(exclusion)
+}
+
+struct Lasso {
+    stem: Rows,
+    s: Entries,
+    s0: i64,
+    k: i64,
+    t: Multipliers,
+    k2: i64,
+    h: Multipliers,
+    h0: i64,
+    ranking: Ranking,
+}
+
+impl Lasso {
+    const NONE: Lasso = Lasso {
+        stem: Rows::NONE,
+        s: NO_ENTRIES,
+        s0: 0,
+        k: 0,
+        t: NO_MULTIPLIERS,
+        k2: 0,
+        h: NO_MULTIPLIERS,
+        h0: 0,
+        ranking: Ranking {
+            y: NO_MULTIPLIERS,
+            z: NO_MULTIPLIERS,
+        },
+    };
+
+    fn parse(&mut self, bytes: &[u8], n: usize, m: usize) -> Result<(), Fault> {
+        if bytes.len() < 8 {
+            return Err((3, 0));
+        }
+        let ms = u16_at(bytes, 6);
+        if ms > MOST_ROWS {
+            return Err((5, 6));
+        }
+        if bytes.len() != 22 + 2 * n + ms * (4 * n + 6) + 6 * m {
+            return Err((3, 0));
+        }
+        let mut cursor = Cursor { bytes, place: 8 };
+        cursor.rows(&mut self.stem, n, ms)?;
+        cursor.entries(&mut self.s[..n])?;
+        self.s0 = cursor.i32(1_000_000)?;
+        self.k = cursor.scale()?;
+        cursor.multipliers(&mut self.t[..ms])?;
+        self.k2 = cursor.scale()?;
+        cursor.multipliers(&mut self.h[..m])?;
+        self.h0 = cursor.u16(0, 60_000)?;
+        cursor.multipliers(&mut self.ranking.y[..m + 1])?;
+        cursor.multipliers(&mut self.ranking.z[..m + 1])
+    }
+}
+
+/// Σ multiplier·entry down one column.
+fn column(weights: &Multipliers, rows: &Rows, entries: &[Entries; MOST_ROWS], j: usize) -> i64 {
+    (0..rows.count).map(|i| weights[i] * entries[i][j]).sum()
+}
+
+/// Σ multiplier·right side.
+fn right(weights: &Multipliers, rows: &Rows) -> i64 {
+    (0..rows.count).map(|i| weights[i] * rows.right[i]).sum()
+}
+
+fn dot(left: &[i64], right: &[i64]) -> i64 {
+    left.iter().zip(right).map(|(x, y)| x * y).sum()
+}
+
+/// r, start and fall of an accepted ranking.
+struct Rank {
+    r: Entries,
+    start: i64,
+    fall: i64,
+}
+
+/// The four conditions over the rows and an added row -s·x <= s0.
+fn rank(ranking: &Ranking, rows: &Rows, n: usize, s: &Entries, s0: i64) -> Option<Rank> {
+    let (y, z) = (&ranking.y, &ranking.z);
+    let (y_added, z_added) = (y[rows.count], z[rows.count]);
+    let mut r = NO_ENTRIES;
+    for j in 0..n {
+        if column(y, rows, &rows.next, j) != 0 {
+            return None;
+        }
+        let ya = column(y, rows, &rows.now, j) - y_added * s[j];
+        let za = column(z, rows, &rows.now, j) - z_added * s[j];
+        r[j] = column(z, rows, &rows.next, j);
+        if ya != za || za + r[j] != 0 {
+            return None;
+        }
+    }
+    let zb = right(z, rows) + z_added * s0;
+    if zb >= 0 {
+        return None;
+    }
+    let start = -(right(y, rows) + y_added * s0);
+    Some(Rank {
+        r,
+        start,
+        fall: -zb,
+    })
+}
+
+fn excluded(exclusion: &Exclusion, rows: &Rows, n: usize) -> bool {
+    let Exclusion { q, u, v, w } = exclusion;
+    let mut before = NO_ENTRIES;
+    for j in 0..n {
+        before[j] = w[j] - v[j];
+    }
+    (0..rows.count).all(|i| {
+        let (now, next) = (&rows.now[i][..n], &rows.next[i][..n]);
+        dot(now, v) + dot(next, u) <= 0 && dot(now, &before) + dot(next, w) <= q * rows.right[i]
+    })
+}
+
+impl Lasso {
+    fn starts(&self, n: usize) -> bool {
+        let (t, stem) = (&self.t, &self.stem);
+        (0..n).all(|j| {
+            column(t, stem, &stem.now, j) == 0
+                && column(t, stem, &stem.next, j) == -self.k * self.s[j]
+        }) && right(t, stem) <= self.k * self.s0
+    }
+
+    fn kept(&self, rows: &Rows, n: usize) -> bool {
+        let h = &self.h;
+        (0..n).all(|j| {
+            column(h, rows, &rows.now, j) == self.h0 * self.s[j]
+                && column(h, rows, &rows.next, j) == -self.k2 * self.s[j]
+        }) && right(h, rows) + self.h0 * self.s0 <= self.k2 * self.s0
+    }
+
+    fn rank(&self, rows: &Rows, n: usize) -> Option<Rank> {
+        if !self.starts(n) || !self.kept(rows, n) {
+            return None;
+        }
+        rank(&self.ranking, rows, n, &self.s, self.s0)
+    }
+}
+
+const FAILS: Refused = (8, 0, 2);
+
+fn of_loop((number, place): Fault) -> Refused {
+    (number, place, 1)
+}
+
+fn of_certificate((number, place): Fault) -> Refused {
+    (number, place, 2)
+}
+
+fn verdict(outcome: u64, start: i64, fall: i64, grade: u64) -> Verdict {
+    Verdict {
+        number: 0,
+        place: 0,
+        record: 0,
+        outcome,
+        start,
+        fall,
+        grade,
+    }
+}
+
+fn refused((number, place, record): Refused) -> Verdict {
+    Verdict {
+        number,
+        place,
+        record,
+        ..verdict(0, 0, 0, 0)
+    }
+}
+
+fn fill(list: &mut [i64], rank: &Rank, n: usize, outcome: u64) -> Verdict {
+    list[..n].copy_from_slice(&rank.r[..n]);
+    verdict(outcome, rank.start, rank.fall, 0)
+}
+
+fn room_for(n: usize, list: &[i64]) -> Result<(), Refused> {
+    if list.len() < n {
+        return Err((7, n as u64, 0));
+    }
+    Ok(())
+}
+
+fn judged(looped: &[u8], certificate: &[u8], list: &mut [i64]) -> Result<Verdict, Refused> {
+    let (n, m) = loop_counts(looped).map_err(of_loop)?;
+    let mut rows = Rows::NONE;
+    parse_loop(looped, &mut rows, n, m).map_err(of_loop)?;
+    match framed_kind(certificate).map_err(of_certificate)? {
+        2 => {
+            let ranking = parse_ranking(certificate, m).map_err(of_certificate)?;
+            room_for(n, list)?;
+            let rank = rank(&ranking, &rows, n, &NO_ENTRIES, 0).ok_or(FAILS)?;
+            Ok(fill(list, &rank, n, 2))
+        }
+        3 => {
+            let exclusion = parse_exclusion(certificate, n).map_err(of_certificate)?;
+            if !excluded(&exclusion, &rows, n) {
+                return Err(FAILS);
+            }
+            Ok(verdict(3, 0, 0, if exclusion.q == 1 { 1 } else { 2 }))
+        }
+        4 => {
+            let mut lasso = Lasso::NONE;
+            lasso.parse(certificate, n, m).map_err(of_certificate)?;
+            room_for(n, list)?;
+            let rank = lasso.rank(&rows, n).ok_or(FAILS)?;
+            Ok(fill(list, &rank, n, 4))
+        }
+        _ => Err((4, 4, 2)),
+    }
+}
+
+/// As `cushiedoo_judge`.
+pub fn judge(looped: &[u8], certificate: &[u8], list: &mut [i64]) -> Verdict {
+    judged(looped, certificate, list).unwrap_or_else(refused)
+}
+
+fn state_in_range(state: &[i64], n: usize) -> Result<(), Refused> {
+    if state.len() != n {
+        return Err((10, state.len() as u64, 0));
+    }
+    let fits = |entry: &i64| (-1_000_000..=1_000_000).contains(entry);
+    match state.iter().position(|entry| !fits(entry)) {
+        Some(index) => Err((9, index as u64, 0)),
+        None => Ok(()),
+    }
+}
+
+fn bound_at(rank: &Rank, state: &[i64], outcome: u64) -> (Verdict, u64) {
+    let over = dot(&rank.r, state) - rank.start;
+    let bound = if over < 0 {
+        0
+    } else {
+        (over / rank.fall) as u64 + 1
+    };
+    (verdict(outcome, rank.start, rank.fall, 0), bound)
+}
+
+fn bounded(looped: &[u8], certificate: &[u8], state: &[i64]) -> Result<(Verdict, u64), Refused> {
+    let (n, m) = loop_counts(looped).map_err(of_loop)?;
+    let mut rows = Rows::NONE;
+    parse_loop(looped, &mut rows, n, m).map_err(of_loop)?;
+    match framed_kind(certificate).map_err(of_certificate)? {
+        2 => {
+            let ranking = parse_ranking(certificate, m).map_err(of_certificate)?;
+            state_in_range(state, n)?;
+            let rank = rank(&ranking, &rows, n, &NO_ENTRIES, 0).ok_or(FAILS)?;
+            Ok(bound_at(&rank, state, 2))
+        }
+        4 => {
+            let mut lasso = Lasso::NONE;
+            lasso.parse(certificate, n, m).map_err(of_certificate)?;
+            state_in_range(state, n)?;
+            let rank = lasso.rank(&rows, n).ok_or(FAILS)?;
+            if dot(&lasso.s, state) + lasso.s0 < 0 {
+                return Err((11, 0, 2));
+            }
+            Ok(bound_at(&rank, state, 4))
+        }
+        _ => Err((4, 4, 2)),
+    }
+}
+
+/// As `cushiedoo_bound`.
+pub fn bound(looped: &[u8], certificate: &[u8], state: &[i64]) -> Bounded {
+    let (verdict, bound) =
+        bounded(looped, certificate, state).unwrap_or_else(|refusal| (refused(refusal), 0));
+    Bounded {
+        number: verdict.number,
+        place: verdict.place,
+        record: verdict.record,
+        outcome: verdict.outcome,
+        start: verdict.start,
+        fall: verdict.fall,
+        grade: verdict.grade,
+        bound,
+    }
+}

@@ -1,0 +1,241 @@
+//! What is measured: each call on loops of five sizes with certificates of each kind, dense and sparse, accepted and
+//! refused at four points.
+
+use crate::contenders::Contender;
+use cushiedoo::raw::{Bounded, Verdict};
+use second_opinion::construct::{self, bring_to_edge, Built, Inequality, Style};
+use second_opinion::oracle::conditions::Row;
+use second_opinion::oracle::judging::Certificate;
+use second_opinion::oracle::layout::Kind;
+use second_opinion::random::Random;
+
+#[derive(Clone, Copy, Debug, PartialEq, Eq)]
+pub enum Call {
+    Judge,
+    Bound,
+}
+
+/// How full the rows are. Multipliers are all above 0, but for those of the two or three rows that close the sums;
+/// these rows are full in sparse loops too.
+#[derive(Clone, Copy, Debug, PartialEq, Eq)]
+pub enum Fill {
+    Dense,
+    /// Nine zeros in ten.
+    Sparse,
+}
+
+/// Where the answer falls.
+#[derive(Clone, Copy, Debug, PartialEq, Eq)]
+pub enum Answer {
+    Accepted,
+    /// Refused by the last condition.
+    Last,
+    /// Refused by the first condition.
+    First,
+    /// Refused before any value is looked at: the loop record's kind is not 1.
+    Early,
+}
+
+pub const SIZES: [(usize, usize); 5] = [(1, 1), (2, 3), (4, 8), (8, 24), (16, 64)];
+const KINDS: [Kind; 3] = [Kind::Ranking, Kind::Exclusion, Kind::Lasso];
+const ANSWERS: [Answer; 4] = [Answer::Accepted, Answer::Last, Answer::First, Answer::Early];
+
+/// One input that every contender answers.
+#[derive(Clone, Debug)]
+pub struct Subject {
+    pub call: Call,
+    pub kind: Kind,
+    pub n: usize,
+    pub m: usize,
+    pub fill: Fill,
+    pub answer: Answer,
+    pub looped: Vec<u8>,
+    pub certificate: Vec<u8>,
+    pub state: Vec<i64>,
+}
+
+/// What a call answers, with the rank list afterwards.
+#[derive(Clone, Debug, PartialEq, Eq)]
+pub enum Told {
+    Judged(Verdict, [i64; 16]),
+    Bounded(Bounded),
+}
+
+impl Told {
+    pub fn number(&self) -> u64 {
+        match self {
+            Told::Judged(verdict, _) => verdict.number,
+            Told::Bounded(bounded) => bounded.number,
+        }
+    }
+}
+
+impl Subject {
+    /// A name by which a subject is chosen, such as `judge-2-16x64-dense-accepted`.
+    pub fn name(&self) -> String {
+        let name = format!(
+            "{:?}-{}-{}x{}-{:?}-{:?}",
+            self.call,
+            self.kind.number(),
+            self.n,
+            self.m,
+            self.fill,
+            self.answer
+        );
+        name.to_lowercase()
+    }
+
+    /// Whether the subject is of this call, kind, fill and answer.
+    pub fn is(&self, wanted: (Call, Kind, Fill, Answer)) -> bool {
+        (self.call, self.kind, self.fill, self.answer) == wanted
+    }
+
+    /// The bytes of both records.
+    pub fn bytes(&self) -> usize {
+        self.looped.len() + self.certificate.len()
+    }
+
+    /// One call.
+    pub fn ask(&self, contender: Contender) -> Told {
+        match self.call {
+            Call::Judge => {
+                let mut rank = [77; 16];
+                let verdict = contender.judge(&self.looped, &self.certificate, &mut rank);
+                Told::Judged(verdict, rank)
+            }
+            Call::Bound => {
+                Told::Bounded(contender.bound(&self.looped, &self.certificate, &self.state))
+            }
+        }
+    }
+
+    /// The refusal number that the answer must have.
+    pub fn wanted_number(&self) -> u64 {
+        match self.answer {
+            Answer::Accepted => 0,
+            Answer::Last | Answer::First => 8,
+            Answer::Early => 4,
+        }
+    }
+}
+
+/// Every subject, in the order of the tables.
+pub fn subjects() -> Vec<Subject> {
+    let mut subjects = Vec::new();
+    for call in [Call::Judge, Call::Bound] {
+        for kind in KINDS {
+            if (call, kind) == (Call::Bound, Kind::Exclusion) {
+                continue;
+            }
+            for (n, m) in SIZES {
+                for fill in [Fill::Dense, Fill::Sparse] {
+                    let built = build(kind, n, m, fill);
+                    let subject = |&answer| subject(&built, call, fill, answer);
+                    subjects.extend(ANSWERS.iter().map(subject));
+                }
+            }
+        }
+    }
+    subjects
+}
+
+fn subject(built: &Built, call: Call, fill: Fill, answer: Answer) -> Subject {
+    let mut built = built.clone();
+    match answer {
+        Answer::Accepted | Answer::Early => {}
+        Answer::Last => fail_last(&mut built),
+        Answer::First => fail_first(&mut built),
+    }
+    let pair = &built.pair;
+    let mut looped = pair.loop_bytes();
+    if answer == Answer::Early {
+        looped[4] = 5;
+    }
+    Subject {
+        call,
+        kind: pair.certificate_shape().kind,
+        n: pair.n,
+        m: pair.rows.len(),
+        fill,
+        answer,
+        looped,
+        certificate: pair.certificate_bytes(),
+        state: state_for(pair.n, &pair.certificate),
+    }
+}
+
+/// A state that a lasso's invariant lets through.
+fn state_for(n: usize, certificate: &Certificate) -> Vec<i64> {
+    match certificate {
+        Certificate::Lasso(lasso) => lasso.s.iter().map(|s| 100 * s.signum()).collect(),
+        _ => (0..n as i64).map(|j| 100 - 7 * j).collect(),
+    }
+}
+
+/// An accepted pair in which no weight had to be dropped. A lasso's stem has as many rows as the loop.
+fn build(kind: Kind, n: usize, m: usize, fill: Fill) -> Built {
+    let style = Style {
+        entry: 9,
+        right: 20,
+        weight: 9,
+        zeros: if fill == Fill::Dense { 0 } else { 9 },
+        mirrored: false,
+    };
+    let candidates = (0..).map(|seed| {
+        let random = &mut Random::new(seed);
+        match kind {
+            Kind::Exclusion => construct::exclusion(random, n, m, style),
+            Kind::Lasso => construct::lasso(random, n, m, m, style),
+            _ => construct::ranking(random, n, m, style),
+        }
+    });
+    let mut fitting = candidates.filter(|built| fits(built, m));
+    fitting.next().expect("one of the seeds fits")
+}
+
+fn fits(built: &Built, m: usize) -> bool {
+    let weighty = |list: &[i64]| list.iter().filter(|weight| **weight != 0).count();
+    let pivots = &built.pivots;
+    match &built.pair.certificate {
+        Certificate::Ranking(ranking) => m == 1 || weighty(&ranking.y) + 1 == m,
+        Certificate::Exclusion(exclusion) => {
+            exclusion.q == 1 && exclusion.v.iter().all(|v| (1..=9).contains(&v.abs()))
+        }
+        Certificate::Lasso(_) if m == 1 => pivots.fall.is_some(),
+        Certificate::Lasso(lasso) => {
+            let start_is_due = m > 2;
+            pivots.kept.is_some()
+                && pivots.start.is_some() == start_is_due
+                && weighty(&lasso.t) == m
+                && weighty(&lasso.h) + if start_is_due { 2 } else { 1 } == m
+                && (m < 4 || weighty(&lasso.ranking.y[..m]) + 2 == m)
+        }
+    }
+}
+
+fn fail_last(built: &mut Built) {
+    bring_to_edge(built, Inequality::Fall, 1);
+    bring_to_edge(built, Inequality::Step, 1);
+}
+
+/// Lets the first condition of the kind fail in its first column or row.
+fn fail_first(built: &mut Built) {
+    let rows = &mut built.pair.rows;
+    match &mut built.pair.certificate {
+        Certificate::Ranking(ranking) => raise_next(rows, &ranking.y),
+        Certificate::Exclusion(exclusion) => {
+            rows[0].now = exclusion.v.iter().map(|v| v.signum()).collect();
+            rows[0].next.fill(0);
+        }
+        Certificate::Lasso(lasso) => match lasso.t.iter().position(|weight| *weight != 0) {
+            Some(row) => lasso.stem[row].now[0] += 1,
+            None => raise_next(rows, &lasso.ranking.y),
+        },
+    }
+}
+
+/// Raises the first entry of A' in a row with weight, so that YA' is not 0.
+fn raise_next(rows: &mut [Row], y: &[i64]) {
+    let weighty = y.iter().position(|weight| *weight != 0);
+    rows[weighty.expect("some multiplier is above 0")].next[0] += 1;
+}

@@ -1,0 +1,159 @@
+//! Cushiedoo for Rust callers: a proved checker of certificates that loops end.
+//!
+//! The calls are those of the archive `librip.a`, whose promises hold on every input, so nothing needs to be checked
+//! before a call. This crate adds types and words, and needs the standard library only. A slice is never null, and one
+//! that is lent to be filled overlaps no other, so what the archive asks of its callers holds by Rust's own rules.
+//!
+//! ```
+//! use cushiedoo::{bound, judge, write_record, Outcome, Verdict};
+//!
+//! // Loop P over (p, q): -p + q <= -2; -p + p' <= -1; q - q' <= 0. Each row: A, then A', then b.
+//! let rows = [-1, 1, 0, 0, -2, -1, 0, 1, 0, -1, 0, 1, 0, -1, 0];
+//! let mut looped = [0; 46];
+//! write_record(1, 2, 3, &rows, &mut looped)?;
+//!
+//! // A ranking with Y = (1, 0, 0), Z = (0, 1, 1).
+//! let mut certificate = [0; 18];
+//! write_record(2, 2, 3, &[1, 0, 0, 0, 1, 1], &mut certificate)?;
+//!
+//! let mut rank = [0; 2];
+//! let verdict = judge(&looped, &certificate, &mut rank);
+//! assert_eq!(verdict, Verdict::Accepted(Outcome::Ranking { start: 2, fall: 1 }));
+//! assert_eq!(rank, [1, -1]);
+//! assert_eq!(verdict.to_string(), "accepted: rank from 2 down 1");
+//!
+//! let bounded = bound(&looped, &certificate, &[5, 1])?;
+//! assert_eq!(bounded.to_string(), "rank from 2 down 1, at most 3 steps");
+//!
+//! // A refusal says what is wrong, and where.
+//! let cut = judge(&looped, &certificate[..17], &mut rank);
+//! assert_eq!(
+//!     cut.to_string(),
+//!     "refused 1, place 17 (number of bytes), in the certificate: bytes end early"
+//! );
+//! # Ok::<(), cushiedoo::Refusal>(())
+//! ```
+
+mod answers;
+pub mod raw;
+
+pub use answers::{Bounded, Grade, Outcome, Reading, Record, Refusal, Verdict};
+
+/// Reads a loop record (kind 1) into the first places of `values`: its rows, each of n entries of A, n of A' and b.
+pub fn read_loop(bytes: &[u8], values: &mut [i64]) -> Result<Reading, Refusal> {
+    // SAFETY: both slices are valid for their lengths, and `values` is borrowed alone.
+    unsafe {
+        raw::cushiedoo_read_loop(
+            bytes.as_ptr(),
+            bytes.len(),
+            values.as_mut_ptr(),
+            values.len(),
+        )
+    }
+    .into()
+}
+
+/// Reads a certificate record (kinds 2 to 4) of a loop with `n` variables and `m` rows into the first places of
+/// `values`: its body in layout order.
+pub fn read_certificate(
+    bytes: &[u8],
+    n: u64,
+    m: u64,
+    values: &mut [i64],
+) -> Result<Reading, Refusal> {
+    // SAFETY: both slices are valid for their lengths, and `values` is borrowed alone.
+    unsafe {
+        raw::cushiedoo_read_certificate(
+            bytes.as_ptr(),
+            bytes.len(),
+            n,
+            m,
+            values.as_mut_ptr(),
+            values.len(),
+        )
+    }
+    .into()
+}
+
+/// Writes a record from its values, which are those that a reading gives, into the first places of `room`, and tells
+/// the bytes written.
+pub fn write_record(
+    kind: u64,
+    n: u64,
+    m: u64,
+    values: &[i64],
+    room: &mut [u8],
+) -> Result<usize, Refusal> {
+    // SAFETY: both slices are valid for their lengths, and `room` is borrowed alone.
+    unsafe {
+        raw::cushiedoo_write_record(
+            kind,
+            n,
+            m,
+            values.as_ptr(),
+            values.len(),
+            room.as_mut_ptr(),
+            room.len(),
+        )
+    }
+    .into()
+}
+
+/// Writes the text that the program "sheet" prints for `input` into the first places of `text`, and tells its bytes.
+/// The only refusal is 7; the room that it tells is enough for every input of that length.
+pub fn sheet(input: &[u8], text: &mut [u8]) -> Result<usize, Refusal> {
+    // SAFETY: both slices are valid for their lengths, and `text` is borrowed alone.
+    unsafe { raw::cushiedoo_sheet(input.as_ptr(), input.len(), text.as_mut_ptr(), text.len()) }
+        .into()
+}
+
+/// The text that the program "sheet" prints for `input`, in a buffer of its own.
+///
+/// ```
+/// assert_eq!(cushiedoo::sheet_text(&[]), "loop refused 1 0\n");
+/// ```
+pub fn sheet_text(input: &[u8]) -> String {
+    let mut text = Vec::new();
+    let written = loop {
+        match sheet(input, &mut text) {
+            Ok(written) => break written,
+            Err(refusal) => text.resize(refusal.place as usize, 0),
+        }
+    };
+    text.truncate(written);
+    String::from_utf8(text).expect("a sheet is plain ASCII")
+}
+
+/// Judges a certificate for a loop. On acceptance of a ranking or a lasso the first n numbers of `rank` are r; an
+/// exclusion touches none.
+pub fn judge(loop_record: &[u8], certificate: &[u8], rank: &mut [i64]) -> Verdict {
+    // SAFETY: the slices are valid for their lengths, and `rank` is borrowed alone.
+    unsafe {
+        raw::cushiedoo_judge(
+            loop_record.as_ptr(),
+            loop_record.len(),
+            certificate.as_ptr(),
+            certificate.len(),
+            rank.as_mut_ptr(),
+            rank.len(),
+        )
+    }
+    .into()
+}
+
+/// Judges a ranking or a lasso and tells how many steps a run from `state` can take at most. An exclusion is refused
+/// with 4.
+pub fn bound(loop_record: &[u8], certificate: &[u8], state: &[i64]) -> Result<Bounded, Refusal> {
+    // SAFETY: the slices are valid for their lengths.
+    unsafe {
+        raw::cushiedoo_bound(
+            loop_record.as_ptr(),
+            loop_record.len(),
+            certificate.as_ptr(),
+            certificate.len(),
+            state.as_ptr(),
+            state.len(),
+        )
+    }
+    .into()
+}

@@ -1,0 +1,113 @@
+//! The wrapper's calls on the scope paper's own samples: what they give, what they refuse, and what people read.
+
+use cushiedoo::{
+    bound, judge, read_certificate, read_loop, sheet, sheet_text, write_record, Bounded, Grade,
+    Outcome, Reading, Record, Refusal, Verdict,
+};
+
+fn record(kind: u64, n: u64, m: u64, values: &[i64]) -> Vec<u8> {
+    let mut room = [0; 256];
+    let written = write_record(kind, n, m, values, &mut room).expect("the sample is sound");
+    room[..written].to_vec()
+}
+
+fn loop_p() -> Vec<u8> {
+    record(1, 2, 3, &[-1, 1, 0, 0, -2, -1, 0, 1, 0, -1, 0, 1, 0, -1, 0])
+}
+
+fn first_certificate() -> Vec<u8> {
+    record(2, 2, 3, &[1, 0, 0, 0, 1, 1])
+}
+
+#[test]
+fn a_ranking_and_its_bound() {
+    let mut rank = [9; 3];
+    let outcome = Outcome::Ranking { start: 2, fall: 1 };
+    let verdict = judge(&loop_p(), &first_certificate(), &mut rank);
+    assert_eq!(verdict, Verdict::Accepted(outcome));
+    assert_eq!(verdict.outcome(), Some(outcome));
+    assert_eq!(rank, [1, -1, 9]);
+    let at = |state: &[i64]| bound(&loop_p(), &first_certificate(), state);
+    assert_eq!(at(&[5, 1]), Ok(Bounded { outcome, bound: 3 }));
+    assert_eq!(at(&[2, 1]), Ok(Bounded { outcome, bound: 0 }));
+    let once = at(&[3, 1]).expect("the state is in range");
+    assert_eq!(once.to_string(), "rank from 2 down 1, at most 1 step");
+}
+
+#[test]
+fn an_exclusion_of_either_grade() {
+    let looped = record(1, 1, 3, &[-1, 0, 0, 2, 1, 10, -2, -1, -10]);
+    let graded = |values: &[i64]| judge(&looped, &record(3, 1, 3, values), &mut []);
+    let whole = graded(&[1, -2, 1, 4]);
+    let grade = Grade::Whole;
+    assert_eq!(whole, Verdict::Accepted(Outcome::Exclusion { grade }));
+    assert_eq!(whole.to_string(), "accepted: excluded whole");
+    let fractions = graded(&[2, -4, 2, 8]);
+    assert_eq!(fractions.to_string(), "accepted: excluded fractions");
+}
+
+#[test]
+fn a_lasso_and_a_state_outside_its_invariant() {
+    let looped = record(1, 2, 3, &[-1, 0, 0, 0, 0, -1, 1, 1, 0, 0, 0, 1, 0, -1, 0]);
+    let stem = [1, 0, 0, 0, -1, -1];
+    let rest = [0, 1, -1, 1, 1, 1, 0, 0, 1, 1, 1, 0, 0, 0, 0, 1, 0, 1];
+    let lasso = record(4, 2, 3, &[&stem[..], &rest].concat());
+    let outcome = Outcome::Lasso { start: 0, fall: 1 };
+    let inside = bound(&looped, &lasso, &[5, 1]);
+    assert_eq!(inside, Ok(Bounded { outcome, bound: 6 }));
+    let outside = bound(&looped, &lasso, &[5, 0]).expect_err("the invariant fails");
+    assert_eq!((outside.number, outside.record), (11, Record::Certificate));
+    assert_eq!(outside.meaning(), "lasso state outside the invariant");
+}
+
+#[test]
+fn refusals_tell_number_place_and_record() {
+    let mut rank = [9; 2];
+    let cut = judge(&loop_p()[..45], &first_certificate(), &mut rank);
+    let refusal = Refusal {
+        number: 1,
+        place: 45,
+        record: Record::Loop,
+    };
+    assert_eq!(cut, Verdict::Refused(refusal));
+    assert_eq!(
+        cut.to_string(),
+        "refused 1, place 45 (number of bytes), in the loop: bytes end early"
+    );
+    let short = judge(&loop_p(), &first_certificate(), &mut rank[..1]);
+    assert_eq!(
+        short.to_string(),
+        "refused 7, place 2 (room needed): room too small"
+    );
+    assert_eq!(rank, [9, 9]);
+}
+
+#[test]
+fn reading_gives_the_values_and_leaves_the_rest() {
+    let mut values = [9; 16];
+    let reading = read_loop(&loop_p(), &mut values);
+    let expected = Reading {
+        kind: 1,
+        n: 2,
+        m: 3,
+        count: 15,
+    };
+    assert_eq!(reading, Ok(expected));
+    assert_eq!((values[0], values[14], values[15]), (-1, 0, 9));
+    let reading = read_certificate(&first_certificate(), 2, 3, &mut values);
+    let counts = reading.map(|reading| (reading.kind, reading.count));
+    assert_eq!(counts, Ok((2, 6)));
+    let refused = read_certificate(&first_certificate(), 17, 3, &mut values);
+    assert_eq!(refused.map_err(|refusal| refusal.number), Err(5));
+}
+
+#[test]
+fn the_sheet_of_p() {
+    let second = record(2, 2, 3, &[1, 0, 0, 0, 1, 0]);
+    let input = [loop_p(), first_certificate(), second].concat();
+    let text = "loop 2 3\n1 rank 1 -1 from 2 down 1\n2 refused 8 0\n";
+    assert_eq!(sheet_text(&input), text);
+    let refusal = sheet(&input, &mut []).expect_err("there is no room");
+    assert_eq!(refusal.number, 7);
+    assert!(refusal.place as usize >= text.len());
+}

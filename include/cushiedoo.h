@@ -1,0 +1,176 @@
+/*
+ * Cushiedoo: a proved checker of certificates that loops end.
+ *
+ * The calls of the archive librip.a. Each of them answers every input; the caller need not have checked anything. What
+ * is proved of them is listed in docs/PROMISES.md; "01" is the scope paper, whose words are used here.
+ *
+ * Pointers. A list is a pointer and its number of entries (not bytes). A pointer is never null, not even at length 0:
+ * pass the address of any object of that type there. A list that a call writes to must not overlap any other list of
+ * the same call. Bytes may stand at any address; lists of int64_t are aligned as that type is.
+ *
+ * Lent lists. A call that is done fills the first places of the list or room it was lent, and the rest stays. A refused
+ * call changes nothing. No call keeps a pointer or touches anything but its lists, so calls may run at once.
+ *
+ * Ranges. Variables n: 1 to 16. Loop rows m and stem rows ms: 0 to 64 each.
+ *
+ * Refusals. Every answer starts with a number and a place:
+ *
+ *   number                meaning                                                  place
+ *   CUSHIEDOO_DONE     0  done                                                     0
+ *   CUSHIEDOO_ENDS     1  bytes end early                                          number of bytes
+ *   CUSHIEDOO_AFTER    2  bytes after the record                                   4 + L
+ *   CUSHIEDOO_LENGTH   3  L is below 2, too small for the counts, or not the       0
+ *                         stated L
+ *   CUSHIEDOO_KIND     4  kind not wanted here                                     4
+ *   CUSHIEDOO_COUNT    5  count out of range                                       its first byte; 0 if n or m came as
+ *                                                                                  an argument for kinds 2 to 4
+ *   CUSHIEDOO_VALUE    6  value out of range, the first in layout order            its first byte
+ *   CUSHIEDOO_ROOM     7  room too small                                           room needed
+ *   CUSHIEDOO_FAILS    8  a condition fails                                        0
+ *   CUSHIEDOO_STATE    9  state entry out of range, the first                      its index, from 0
+ *   CUSHIEDOO_ENTRIES 10  state doesn't have n entries                             number of entries
+ *   CUSHIEDOO_OUTSIDE 11  lasso state outside the invariant                        0
+ *   CUSHIEDOO_LIST    12  value list of the wrong length                           length needed (1 if ms is absent)
+ *
+ * Places count bytes from the record's first byte unless the table says otherwise. On a refusal all other fields of the
+ * answer are 0, but for the record that a verdict speaks of.
+ */
+#ifndef CUSHIEDOO_H
+#define CUSHIEDOO_H
+
+#include <stddef.h>
+#include <stdint.h>
+
+#ifdef __cplusplus
+extern "C" {
+#endif
+
+/* The refusal numbers of the table above. */
+enum {
+    CUSHIEDOO_DONE = 0,
+    CUSHIEDOO_ENDS = 1,
+    CUSHIEDOO_AFTER = 2,
+    CUSHIEDOO_LENGTH = 3,
+    CUSHIEDOO_KIND = 4,
+    CUSHIEDOO_COUNT = 5,
+    CUSHIEDOO_VALUE = 6,
+    CUSHIEDOO_ROOM = 7,
+    CUSHIEDOO_FAILS = 8,
+    CUSHIEDOO_STATE = 9,
+    CUSHIEDOO_ENTRIES = 10,
+    CUSHIEDOO_OUTSIDE = 11,
+    CUSHIEDOO_LIST = 12
+};
+
+/* The record that a verdict speaks of. */
+enum {
+    CUSHIEDOO_NEITHER = 0,    /* done, 7, 9 and 10 */
+    CUSHIEDOO_LOOP = 1,       /* 1 to 6 in the loop record */
+    CUSHIEDOO_CERTIFICATE = 2 /* 1 to 6 in the certificate; 8 and 11 */
+};
+
+/* The outcome of a verdict: the kind of the certificate that gave it. */
+enum {
+    CUSHIEDOO_NOTHING = 0,   /* refused */
+    CUSHIEDOO_RANKING = 2,   /* with start and fall */
+    CUSHIEDOO_EXCLUSION = 3, /* with a grade; it does not say that the loop runs for ever */
+    CUSHIEDOO_LASSO = 4      /* with start and fall */
+};
+
+/* The grade of an exclusion: over which numbers no linear ranking function exists. */
+enum {
+    CUSHIEDOO_NO_GRADE = 0,
+    CUSHIEDOO_WHOLE = 1,    /* neither over fractions nor over whole numbers */
+    CUSHIEDOO_FRACTIONS = 2 /* none over fractions */
+};
+
+/* The answer of a reading. */
+typedef struct {
+    uint64_t number; /* refusal number */
+    uint64_t place;
+    uint64_t kind;  /* 1 to 4 */
+    uint64_t n;     /* the loop's variables; 0 for kinds 2 to 4 */
+    uint64_t m;     /* the loop's rows; 0 for kinds 2 to 4 */
+    uint64_t count; /* values filled */
+} cushiedoo_reading;
+
+/* The answer of a writing. */
+typedef struct {
+    uint64_t number; /* refusal number */
+    uint64_t place;
+    uint64_t written; /* bytes filled */
+} cushiedoo_writing;
+
+/* The answer of judging. */
+typedef struct {
+    uint64_t number; /* refusal number */
+    uint64_t place;
+    uint64_t record;  /* the record it speaks of */
+    uint64_t outcome; /* what was accepted */
+    int64_t start;    /* of a ranking or lasso: r.x is at least this before a step */
+    int64_t fall;     /* of a ranking or lasso: r.x falls by at least this in a step */
+    uint64_t grade;   /* of an exclusion */
+} cushiedoo_verdict;
+
+/* The answer of a bound: judging's, and the bound beside it. */
+typedef struct {
+    uint64_t number;
+    uint64_t place;
+    uint64_t record;
+    uint64_t outcome;
+    int64_t start;
+    int64_t fall;
+    uint64_t grade;
+    uint64_t bound; /* no run from the state takes more steps than this */
+} cushiedoo_bounded;
+
+/*
+ * Reads a loop record (kind 1). The values are its rows, one after another, each of n entries of A, n of A' and b:
+ * m(2n + 1) of them. Refusals: 1 to 7, in the order 1, 3 (L below 2), 1, 2, 4, 3 (no room for the counts), 5 (n, then
+ * m), 3, 6, 7.
+ */
+cushiedoo_reading cushiedoo_read_loop(const uint8_t *bytes, size_t bytes_len, int64_t *values, size_t values_len);
+
+/*
+ * Reads a certificate record (kinds 2 to 4) of a loop with n variables and m rows. The values are the body in layout
+ * order: of a ranking Y, Z; of an exclusion q, U, V, W; of a lasso ms, the stem rows, s, s0, k, T, k2, H, h0, Y, Z.
+ * Refusals: 1 to 7, in the order of cushiedoo_read_loop, with 5 for n and m as arguments right after 4.
+ */
+cushiedoo_reading cushiedoo_read_certificate(const uint8_t *bytes, size_t bytes_len, uint64_t n, uint64_t m,
+                                             int64_t *values, size_t values_len);
+
+/*
+ * Writes a record of any kind from its values, which are those that a reading gives. Refusals: 4, 5 (n, m), 12 (ms is
+ * absent), 5 (ms), 12, 6, 7, in this order. Places of 4, 5 and 6 are those in the record that would be written.
+ */
+cushiedoo_writing cushiedoo_write_record(uint64_t kind, uint64_t n, uint64_t m, const int64_t *values,
+                                         size_t values_len, uint8_t *room, size_t room_len);
+
+/*
+ * Writes the text that the program "sheet" prints for an input: one loop record, then certificate records to the end.
+ * The only refusal is 7. The room that its place tells depends on the length of the input alone and is enough for every
+ * input of that length; a call with an empty room is a cheap way to learn it.
+ */
+cushiedoo_writing cushiedoo_sheet(const uint8_t *input, size_t input_len, uint8_t *text, size_t text_len);
+
+/*
+ * Judges a certificate for a loop. On acceptance of a ranking or a lasso the first n numbers of the rank list are r; an
+ * exclusion needs and touches none. Refusals: those of the loop record, those of the certificate, 7 (kinds 2 and 4
+ * only), 8, in this order.
+ */
+cushiedoo_verdict cushiedoo_judge(const uint8_t *loop, size_t loop_len, const uint8_t *certificate,
+                                  size_t certificate_len, int64_t *rank, size_t rank_len);
+
+/*
+ * Judges a ranking or a lasso and tells how many steps a run from the state can take at most. For a lasso that is
+ * promised for runs whose first state follows a step of the stem. Refusals: those of the loop record, those of the
+ * certificate (kind 3 gives 4), 10, 9, 8, 11, in this order.
+ */
+cushiedoo_bounded cushiedoo_bound(const uint8_t *loop, size_t loop_len, const uint8_t *certificate,
+                                  size_t certificate_len, const int64_t *state, size_t state_len);
+
+#ifdef __cplusplus
+}
+#endif
+
+#endif

@@ -1,0 +1,69 @@
+#!/usr/bin/env bash
+# Builds and runs everything that stands around the archive: the C header and example, the Rust wrapper, and the second
+# opinion with its generated cases.
+#
+#     tests/run.sh [FOLDER]
+#
+# FOLDER is the one that holds librip.a, the repository's target/staticlib unless it is named. For each part one line is
+# printed, which starts with `passed ` or `failed `; what a failed part printed follows it. The exit is not 0 if a part
+# failed. CASES and SEED in the environment set those of the second opinion.
+set -u
+root=$(cd "$(dirname "$0")/.." && pwd) || exit 1
+folder=${1:-$root/target/staticlib}
+if [ ! -f "$folder/librip.a" ]; then
+  echo "failed archive"
+  echo "$folder/librip.a is not there: rt staticlib rip makes it"
+  exit 1
+fi
+CUSHIEDOO_LIB_DIR=$(cd "$folder" && pwd) || exit 1
+export CUSHIEDOO_LIB_DIR
+cd "$root" || exit 1
+scratch=$(mktemp -d)
+trap 'rm -rf "$scratch"' EXIT
+failed=0
+
+# Runs a part's function and prints its line; with `show`, the last lines that it printed as well.
+part() {
+  local name=$1 show=$2
+  shift 2
+  if "$@" >"$scratch/log" 2>&1; then
+    echo "passed $name"
+    [ "$show" -eq 0 ] || tail -n "$show" "$scratch/log"
+  else
+    failed=$((failed + 1))
+    echo "failed $name"
+    tail -n 40 "$scratch/log"
+  fi
+}
+
+there() { command -v "$1" >/dev/null || { echo "$1 is missing: this part needs it"; return 1; }; }
+
+c_example() {
+  there cc || return 1
+  cc -std=c99 -Wall -Wextra -Werror -Iinclude examples/c/judge.c "$CUSHIEDOO_LIB_DIR/librip.a" \
+    -o "$scratch/judge" || return 1
+  "$scratch/judge" >"$scratch/judge.out" || return 1
+  diff examples/c/judge.expected "$scratch/judge.out"
+}
+
+# Each cargo project keeps its own target folder; none needs the network.
+cargo_in() {
+  there cargo || return 1
+  local project=$1
+  shift
+  (cd "$project" && cargo "$@")
+}
+
+rust_wrapper() { cargo_in bindings/rust test --offline --locked; }
+
+second_opinion_samples() { cargo_in tests test --release --offline --locked; }
+
+second_opinion() {
+  cargo_in tests run --release --offline --locked -- --cases "${CASES:-400000}" --seed "${SEED:-1}"
+}
+
+part "c example" 0 c_example
+part "rust wrapper" 0 rust_wrapper
+part "second opinion, the paper's samples" 0 second_opinion_samples
+part "second opinion, generated cases" 9 second_opinion
+[ "$failed" -eq 0 ]

@@ -1,0 +1,384 @@
+//! One case, answered by the oracle and by the archive, and compared: every number told, and every entry of every list
+//! lent, which is filled with a pattern first and stands between guards.
+
+use crate::cases::{Case, SheetRoom};
+use crate::oracle::judging::{self, Bounded, Verdict};
+use crate::oracle::record::{self, Reading, Writing};
+use crate::oracle::sheet;
+use cushiedoo::raw;
+use std::ops::Deref;
+
+/// What a call told.
+#[derive(Clone, Copy, Debug, PartialEq, Eq)]
+pub enum Told {
+    Reading(Reading),
+    Writing(Writing),
+    Verdict(Verdict),
+    Bounded(Bounded),
+}
+
+impl Told {
+    /// The refusal number, and the record that it speaks of (0 where a call tells none).
+    pub fn number_and_record(&self) -> (u64, u64) {
+        match self {
+            Told::Reading(reading) => (reading.number, 0),
+            Told::Writing(writing) => (writing.number, 0),
+            Told::Verdict(verdict) => (verdict.number, verdict.record),
+            Told::Bounded(bounded) => (bounded.verdict.number, bounded.verdict.record),
+        }
+    }
+}
+
+/// The list that a call was lent, as it is after the call.
+#[derive(Clone, PartialEq, Eq)]
+pub enum Lent {
+    Numbers(Lending<i64>),
+    Bytes(Lending<u8>),
+    Nothing,
+}
+
+/// What a call told and what it did to the list that it was lent.
+#[derive(Clone, PartialEq, Eq)]
+pub struct Answer {
+    pub told: Told,
+    pub lent: Lent,
+}
+
+const GUARD: usize = 8;
+
+/// A list to lend, filled with a pattern, with guards on both sides that belong to nobody.
+#[derive(Clone, PartialEq, Eq)]
+pub struct Lending<T> {
+    cells: Vec<T>,
+}
+
+impl<T: From<u8>> Lending<T> {
+    fn new(room: usize) -> Lending<T> {
+        let pattern = |cell: usize| T::from((cell as u8).wrapping_mul(37) ^ 0xA5);
+        Lending {
+            cells: (0..room + 2 * GUARD).map(pattern).collect(),
+        }
+    }
+
+    fn list(&mut self) -> &mut [T] {
+        let end = self.cells.len() - GUARD;
+        &mut self.cells[GUARD..end]
+    }
+
+    /// The first places of the list, as far as it goes.
+    pub fn first(&self, count: usize) -> &[T] {
+        let room = self.cells.len() - 2 * GUARD;
+        &self.cells[GUARD..GUARD + count.min(room)]
+    }
+
+    /// The first cell, counted from the list's own first place, in which two lendings differ.
+    pub fn first_difference(&self, other: &Lending<T>) -> Option<i64>
+    where
+        T: PartialEq,
+    {
+        let differs = |(left, right)| left != right;
+        let cell = self.cells.iter().zip(&other.cells).position(differs);
+        cell.map(|cell| cell as i64 - GUARD as i64)
+    }
+}
+
+/// A copy of bytes that ends where its allocation ends and starts at any address, so that a look past its end can be
+/// seen by a memory checker and nothing rests on alignment.
+struct Unaligned {
+    cells: Box<[u8]>,
+    shift: usize,
+}
+
+impl Unaligned {
+    fn new(bytes: &[u8], shift: usize) -> Unaligned {
+        let mut cells = vec![0; shift + bytes.len()];
+        cells[shift..].copy_from_slice(bytes);
+        Unaligned {
+            cells: cells.into_boxed_slice(),
+            shift,
+        }
+    }
+}
+
+impl Deref for Unaligned {
+    type Target = [u8];
+
+    fn deref(&self) -> &[u8] {
+        &self.cells[self.shift..]
+    }
+}
+
+/// Two records at addresses that are aligned differently.
+fn unaligned_pair(looped: &[u8], certificate: &[u8], shift: usize) -> [Unaligned; 2] {
+    [
+        Unaligned::new(looped, shift),
+        Unaligned::new(certificate, 7 - shift),
+    ]
+}
+
+/// What the paper says.
+pub fn expected(case: &Case) -> Answer {
+    match case {
+        Case::ReadLoop { bytes, room } => {
+            numbers(*room, |list| Told::Reading(record::read_loop(bytes, list)))
+        }
+        Case::ReadCertificate { bytes, n, m, room } => numbers(*room, |list| {
+            Told::Reading(record::read_certificate(bytes, *n, *m, list))
+        }),
+        Case::WriteRecord {
+            kind,
+            n,
+            m,
+            values,
+            room,
+        } => bytes_lent(*room, |list| {
+            Told::Writing(record::write_record(*kind, *n, *m, values, list))
+        }),
+        Case::Sheet { input, room } => expected_sheet(input, *room),
+        Case::Judge {
+            loop_bytes,
+            certificate,
+            room,
+        } => numbers(*room, |list| {
+            Told::Verdict(judging::judge(loop_bytes, certificate, list))
+        }),
+        Case::Bound {
+            loop_bytes,
+            certificate,
+            state,
+        } => Answer {
+            told: Told::Bounded(judging::bound(loop_bytes, certificate, state)),
+            lent: Lent::Nothing,
+        },
+    }
+}
+
+/// What the archive says. Bytes are passed at an address that is `shift` past an aligned one.
+pub fn archive(case: &Case, shift: usize) -> Answer {
+    match case {
+        Case::ReadLoop { bytes, room } => {
+            let bytes = Unaligned::new(bytes, shift);
+            numbers(*room, |list| archive_reads_loop(&bytes, list))
+        }
+        Case::ReadCertificate { bytes, n, m, room } => {
+            let bytes = Unaligned::new(bytes, shift);
+            numbers(*room, |list| {
+                archive_reads_certificate(&bytes, *n, *m, list)
+            })
+        }
+        Case::WriteRecord {
+            kind,
+            n,
+            m,
+            values,
+            room,
+        } => bytes_lent(*room, |list| archive_writes(*kind, *n, *m, values, list)),
+        Case::Sheet { input, room } => {
+            let input = Unaligned::new(input, shift);
+            let places = sheet_places(&input, *room);
+            bytes_lent(places, |list| Told::Writing(archive_sheet(&input, list)))
+        }
+        Case::Judge {
+            loop_bytes,
+            certificate,
+            room,
+        } => numbers(*room, |list| {
+            let [looped, certificate] = unaligned_pair(loop_bytes, certificate, shift);
+            archive_judges(&looped, &certificate, list)
+        }),
+        Case::Bound {
+            loop_bytes,
+            certificate,
+            state,
+        } => {
+            let [looped, certificate] = unaligned_pair(loop_bytes, certificate, shift);
+            let told = archive_bounds(&looped, &certificate, state);
+            let lent = Lent::Nothing;
+            Answer { told, lent }
+        }
+    }
+}
+
+fn numbers(room: usize, call: impl FnOnce(&mut [i64]) -> Told) -> Answer {
+    let mut lending = Lending::new(room);
+    let told = call(lending.list());
+    Answer {
+        told,
+        lent: Lent::Numbers(lending),
+    }
+}
+
+fn bytes_lent(room: usize, call: impl FnOnce(&mut [u8]) -> Told) -> Answer {
+    let mut lending = Lending::new(room);
+    let told = call(lending.list());
+    Answer {
+        told,
+        lent: Lent::Bytes(lending),
+    }
+}
+
+/// The room that the archive wants for a sheet, as a call with an empty room tells it.
+fn sheet_needs(input: &[u8]) -> usize {
+    archive_sheet(input, &mut []).place as usize
+}
+
+fn sheet_places(input: &[u8], room: SheetRoom) -> usize {
+    match room {
+        SheetRoom::Empty => 0,
+        SheetRoom::OneShort => sheet_needs(input).saturating_sub(1),
+        SheetRoom::Enough(more) => sheet_needs(input) + more,
+    }
+}
+
+/// A sheet's text, or 7 with the room that the archive told for an empty one. The paper has no word on that number, so
+/// it is only held to be the same again, and to be enough.
+fn expected_sheet(input: &[u8], room: SheetRoom) -> Answer {
+    let needs = sheet_needs(input);
+    bytes_lent(sheet_places(input, room), |list| {
+        if list.len() < needs.max(1) {
+            return Told::Writing(Writing {
+                number: 7,
+                place: needs as u64,
+                written: 0,
+            });
+        }
+        let text = sheet::sheet(input);
+        let fits = text.len().min(list.len());
+        list[..fits].copy_from_slice(&text.as_bytes()[..fits]);
+        Told::Writing(Writing {
+            number: 0,
+            place: 0,
+            written: text.len() as u64,
+        })
+    })
+}
+
+fn reading(raw: raw::Reading) -> Told {
+    Told::Reading(Reading {
+        number: raw.number,
+        place: raw.place,
+        kind: raw.kind,
+        n: raw.n,
+        m: raw.m,
+        count: raw.count,
+    })
+}
+
+fn writing(raw: raw::Writing) -> Writing {
+    Writing {
+        number: raw.number,
+        place: raw.place,
+        written: raw.written,
+    }
+}
+
+fn archive_reads_loop(bytes: &[u8], list: &mut [i64]) -> Told {
+    // SAFETY: both slices are valid for their lengths and stand apart.
+    reading(unsafe {
+        raw::cushiedoo_read_loop(bytes.as_ptr(), bytes.len(), list.as_mut_ptr(), list.len())
+    })
+}
+
+fn archive_reads_certificate(bytes: &[u8], n: u64, m: u64, list: &mut [i64]) -> Told {
+    // SAFETY: both slices are valid for their lengths and stand apart.
+    reading(unsafe {
+        raw::cushiedoo_read_certificate(
+            bytes.as_ptr(),
+            bytes.len(),
+            n,
+            m,
+            list.as_mut_ptr(),
+            list.len(),
+        )
+    })
+}
+
+fn archive_writes(kind: u64, n: u64, m: u64, values: &[i64], room: &mut [u8]) -> Told {
+    // SAFETY: both slices are valid for their lengths and stand apart.
+    Told::Writing(writing(unsafe {
+        raw::cushiedoo_write_record(
+            kind,
+            n,
+            m,
+            values.as_ptr(),
+            values.len(),
+            room.as_mut_ptr(),
+            room.len(),
+        )
+    }))
+}
+
+fn archive_sheet(input: &[u8], text: &mut [u8]) -> Writing {
+    // SAFETY: both slices are valid for their lengths and stand apart.
+    writing(unsafe {
+        raw::cushiedoo_sheet(input.as_ptr(), input.len(), text.as_mut_ptr(), text.len())
+    })
+}
+
+fn archive_judges(looped: &[u8], certificate: &[u8], rank: &mut [i64]) -> Told {
+    // SAFETY: the slices are valid for their lengths and stand apart.
+    let raw = unsafe {
+        raw::cushiedoo_judge(
+            looped.as_ptr(),
+            looped.len(),
+            certificate.as_ptr(),
+            certificate.len(),
+            rank.as_mut_ptr(),
+            rank.len(),
+        )
+    };
+    Told::Verdict(Verdict {
+        number: raw.number,
+        place: raw.place,
+        record: raw.record,
+        outcome: raw.outcome,
+        start: raw.start,
+        fall: raw.fall,
+        grade: raw.grade,
+    })
+}
+
+fn archive_bounds(looped: &[u8], certificate: &[u8], state: &[i64]) -> Told {
+    // SAFETY: the slices are valid for their lengths.
+    let raw = unsafe {
+        raw::cushiedoo_bound(
+            looped.as_ptr(),
+            looped.len(),
+            certificate.as_ptr(),
+            certificate.len(),
+            state.as_ptr(),
+            state.len(),
+        )
+    };
+    Told::Bounded(Bounded {
+        verdict: Verdict {
+            number: raw.number,
+            place: raw.place,
+            record: raw.record,
+            outcome: raw.outcome,
+            start: raw.start,
+            fall: raw.fall,
+            grade: raw.grade,
+        },
+        bound: raw.bound,
+    })
+}
+
+/// Says where two answers differ.
+pub fn difference(expected: &Answer, archive: &Answer) -> String {
+    if expected.told != archive.told {
+        return format!(
+            "the paper says {:?}, the archive {:?}",
+            expected.told, archive.told
+        );
+    }
+    let place = match (&expected.lent, &archive.lent) {
+        (Lent::Numbers(left), Lent::Numbers(right)) => left.first_difference(right),
+        (Lent::Bytes(left), Lent::Bytes(right)) => left.first_difference(right),
+        _ => None,
+    };
+    format!(
+        "both say {:?}, but the lent list differs first at place {place:?}",
+        expected.told
+    )
+}

@@ -1,0 +1,16 @@
+//! The second opinion: an independent rendering of the scope paper ("01"), and generated cases by which the archive is
+//! held to it.
+//!
+//! - [`oracle`] is the paper, plainly rendered; it leans on nothing else here.
+//! - [`construct`], [`damage`] and [`cases`] make the inputs from a seed.
+//! - [`compare`] calls the archive, and compares every number told and every entry of every list lent.
+//! - [`tally`] counts what came up, and says which quotas are not met.
+
+pub mod cases;
+pub mod compare;
+pub mod construct;
+pub mod damage;
+pub mod forms;
+pub mod oracle;
+pub mod random;
+pub mod tally;

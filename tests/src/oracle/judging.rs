@@ -1,0 +1,236 @@
+//! Judging and bound: from the bytes of a loop and a certificate to a verdict.
+
+use super::conditions::{Exclusion, Lasso, Rank, Ranking, Row};
+use super::layout::{Kind, STATE};
+use super::record::{certificate_record, loop_record, Record, CERTIFICATES};
+use super::{refuse, Refusal};
+
+/// What a record's values are, in the words of the conditions.
+#[derive(Clone, Debug)]
+pub enum Certificate {
+    Ranking(Ranking),
+    Exclusion(Exclusion),
+    Lasso(Lasso),
+}
+
+/// A verdict. The outcome is the kind of the certificate that gave it, the grade 1 for whole and 2 for fractions; 0
+/// where there is none.
+#[derive(Clone, Copy, Debug, Default, PartialEq, Eq)]
+pub struct Verdict {
+    pub number: u64,
+    pub place: u64,
+    pub record: u64,
+    pub outcome: u64,
+    pub start: i64,
+    pub fall: i64,
+    pub grade: u64,
+}
+
+/// A verdict with the bound at a state.
+#[derive(Clone, Copy, Debug, Default, PartialEq, Eq)]
+pub struct Bounded {
+    pub verdict: Verdict,
+    pub bound: u64,
+}
+
+/// A refusal and the record that it speaks of: 1 loop, 2 certificate, 0 neither.
+type Refused = (u64, Refusal);
+
+fn of_record<T>(record: u64, result: Result<T, Refusal>) -> Result<T, Refused> {
+    result.map_err(|refusal| (record, refusal))
+}
+
+fn refused((record, Refusal { number, place }): Refused) -> Verdict {
+    Verdict {
+        number,
+        place,
+        record,
+        ..Verdict::default()
+    }
+}
+
+/// Takes the values of a record one part after another.
+struct Parts {
+    values: std::vec::IntoIter<i64>,
+}
+
+impl Parts {
+    fn one(&mut self) -> i64 {
+        self.values.next().expect("the layout has as many values")
+    }
+
+    fn list(&mut self, count: usize) -> Vec<i64> {
+        (0..count).map(|_| self.one()).collect()
+    }
+
+    fn rows(&mut self, count: usize, n: usize) -> Vec<Row> {
+        let mut row = || Row {
+            now: self.list(n),
+            next: self.list(n),
+            right: self.one(),
+        };
+        (0..count).map(|_| row()).collect()
+    }
+}
+
+/// The rows of a loop record.
+pub fn rows(record: Record) -> Vec<Row> {
+    let mut parts = Parts {
+        values: record.values.into_iter(),
+    };
+    parts.rows(record.shape.m, record.shape.n)
+}
+
+/// The parts of a certificate record.
+pub fn certificate(record: Record) -> Certificate {
+    let (n, m, ms) = (record.shape.n, record.shape.m, record.shape.ms);
+    let mut parts = Parts {
+        values: record.values.into_iter(),
+    };
+    match record.shape.kind {
+        Kind::Loop => unreachable!("a certificate has another kind"),
+        Kind::Ranking => Certificate::Ranking(Ranking {
+            y: parts.list(m),
+            z: parts.list(m),
+        }),
+        Kind::Exclusion => Certificate::Exclusion(Exclusion {
+            q: parts.one(),
+            u: parts.list(n),
+            v: parts.list(n),
+            w: parts.list(n),
+        }),
+        Kind::Lasso => {
+            let _ms = parts.one();
+            Certificate::Lasso(Lasso {
+                stem: parts.rows(ms, n),
+                s: parts.list(n),
+                s0: parts.one(),
+                k: parts.one(),
+                t: parts.list(ms),
+                k2: parts.one(),
+                h: parts.list(m),
+                h0: parts.one(),
+                ranking: Ranking {
+                    y: parts.list(m + 1),
+                    z: parts.list(m + 1),
+                },
+            })
+        }
+    }
+}
+
+/// The two records, read: n, the rows and the certificate.
+fn both(
+    loop_bytes: &[u8],
+    certificate_bytes: &[u8],
+    wanted: &[Kind],
+) -> Result<(usize, Vec<Row>, Certificate), Refused> {
+    let looped = of_record(1, loop_record(loop_bytes))?;
+    let (n, m) = (looped.shape.n, looped.shape.m);
+    let record = of_record(
+        2,
+        certificate_record(certificate_bytes, wanted, n as u64, m as u64),
+    )?;
+    Ok((n, rows(looped), certificate(record)))
+}
+
+fn ranked(kind: Kind, rank: &Rank) -> Verdict {
+    Verdict {
+        outcome: kind.number(),
+        start: i64::try_from(rank.start).expect("the ranges keep start within 64 bits"),
+        fall: i64::try_from(rank.fall).expect("the ranges keep fall within 64 bits"),
+        ..Verdict::default()
+    }
+}
+
+fn excluded(exclusion: &Exclusion) -> Verdict {
+    Verdict {
+        outcome: Kind::Exclusion.number(),
+        grade: if exclusion.q == 1 { 1 } else { 2 },
+        ..Verdict::default()
+    }
+}
+
+/// The verdict on a certificate that was read, with the rank of kinds 2 and 4.
+fn verdict(
+    n: usize,
+    rows: &[Row],
+    certificate: &Certificate,
+) -> Result<(Verdict, Option<Rank>), Refused> {
+    let fails = Err((
+        2,
+        Refusal {
+            number: 8,
+            place: 0,
+        },
+    ));
+    match certificate {
+        Certificate::Ranking(ranking) => match ranking.accepted(n, rows) {
+            Some(rank) => Ok((ranked(Kind::Ranking, &rank), Some(rank))),
+            None => fails,
+        },
+        Certificate::Exclusion(exclusion) => match exclusion.accepted(rows) {
+            true => Ok((excluded(exclusion), None)),
+            false => fails,
+        },
+        Certificate::Lasso(lasso) => match lasso.accepted(n, rows) {
+            Some(rank) => Ok((ranked(Kind::Lasso, &rank), Some(rank))),
+            None => fails,
+        },
+    }
+}
+
+/// The loop record, then the certificate, then 7 (kinds 2 and 4 only), then 8.
+fn judged(
+    loop_bytes: &[u8],
+    certificate_bytes: &[u8],
+    list: &mut [i64],
+) -> Result<Verdict, Refused> {
+    let (n, rows, certificate) = both(loop_bytes, certificate_bytes, &CERTIFICATES)?;
+    let fills = !matches!(certificate, Certificate::Exclusion(_));
+    if fills && list.len() < n {
+        return of_record(0, refuse(7, n));
+    }
+    let (verdict, rank) = verdict(n, &rows, &certificate)?;
+    if let Some(rank) = rank {
+        for (place, r) in list.iter_mut().zip(rank.r) {
+            *place = i64::try_from(r).expect("the ranges keep r within 64 bits");
+        }
+    }
+    Ok(verdict)
+}
+
+pub fn judge(loop_bytes: &[u8], certificate_bytes: &[u8], list: &mut [i64]) -> Verdict {
+    judged(loop_bytes, certificate_bytes, list).unwrap_or_else(refused)
+}
+
+/// Loop, certificate (kind 3 gives 4), 10, 9, 8, 11.
+fn bounded(loop_bytes: &[u8], certificate_bytes: &[u8], state: &[i64]) -> Result<Bounded, Refused> {
+    let (n, rows, certificate) =
+        both(loop_bytes, certificate_bytes, &[Kind::Ranking, Kind::Lasso])?;
+    if state.len() != n {
+        return of_record(0, refuse(10, state.len()));
+    }
+    if let Some(index) = state.iter().position(|&entry| !STATE.holds(entry)) {
+        return of_record(0, refuse(9, index));
+    }
+    let (verdict, rank) = verdict(n, &rows, &certificate)?;
+    match &certificate {
+        Certificate::Lasso(lasso) if !lasso.invariant_holds(state) => {
+            return of_record(2, refuse(11, 0));
+        }
+        _ => {}
+    }
+    let bound = rank.expect("kinds 2 and 4 have a rank").bound(state);
+    Ok(Bounded {
+        verdict,
+        bound: u64::try_from(bound).expect("the ranges keep the bound within 64 bits"),
+    })
+}
+
+pub fn bound(loop_bytes: &[u8], certificate_bytes: &[u8], state: &[i64]) -> Bounded {
+    bounded(loop_bytes, certificate_bytes, state).unwrap_or_else(|refusal| Bounded {
+        verdict: refused(refusal),
+        bound: 0,
+    })
+}
