@@ -1,3 +1,4 @@
 pub mod Bytes
 pub mod Ways
 pub mod OneAnswer
+pub mod RoundTrips
