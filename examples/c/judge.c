@@ -5,8 +5,8 @@
  * Y = (1, 0, 0) and Z = (0, 1, 1). Both records are written by the library, so no byte is spelt out here. From the
  * repository's root, once `rt staticlib rip` has made the archive:
  *
- *     cc -std=c99 -Wall -Wextra -Werror -Iinclude examples/c/judge.c target/staticlib/librip.a -o /tmp/judge
- *     /tmp/judge
+ *     cc -std=c99 -Wall -Wextra -Werror -Iinclude examples/c/judge.c target/staticlib/librip.a -o judge
+ *     ./judge
  *
  * It prints what stands in judge.expected.
  */
