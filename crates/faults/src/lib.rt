@@ -8,7 +8,7 @@ ghost use lib.IntN.{pos};
 ghost use lib.ListN.{length, replicate};
 ghost use Rattle.record.specs.Layouts.{entry, right-side, multiplier, scale, direction, rowsOf};
 ghost use Rattle.record.specs.Ranges.{_to_, variables, rows, within};
-ghost use Rattle.runs.specs.Runs.{fits, fault, linear, weights};
+ghost use Rattle.runs.specs.Runs.{fits, all-fit, fault, linear, weights};
 
 // ---- one field
 
@@ -74,12 +74,50 @@ fn scale_fits(bytes: &[u8], place: usize) -> bool
     between(endian::u16_at(bytes, place), 1, 60000)
 }
 
+// ---- runs: whether all is in range. These loops go to the end whatever they meet, so that the compiler tests several fields at once
+
+fn entries_fit(bytes: &[u8], place: usize, count: usize) -> bool
+    requires { ⌜ place + count * 2 ≤ length (now bytes) ⌝ }
+    ensures { λ r. ⌜ r ≡ all-fit entry (now (bytes .entry)) place count ⌝ }
+{
+    let mut all = true;
+    for i in 0..count {
+        all = all & entry_fits(bytes, place + 2 * i);
+    }
+    all
+}
+
+fn directions_fit(bytes: &[u8], place: usize, count: usize) -> bool
+    requires { ⌜ place + count * 4 ≤ length (now bytes) ⌝ }
+    ensures { λ r. ⌜ r ≡ all-fit direction (now (bytes .entry)) place count ⌝ }
+{
+    let mut all = true;
+    for i in 0..count {
+        all = all & direction_fits(bytes, place + 4 * i);
+    }
+    all
+}
+
+fn multipliers_fit(bytes: &[u8], place: usize, count: usize) -> bool
+    requires { ⌜ place + count * 2 ≤ length (now bytes) ⌝ }
+    ensures { λ r. ⌜ r ≡ all-fit multiplier (now (bytes .entry)) place count ⌝ }
+{
+    let mut all = true;
+    for i in 0..count {
+        all = all & multiplier_fits(bytes, place + 2 * i);
+    }
+    all
+}
+
 // ---- runs: where the first number out of range stands, or the end
 
 fn entries_fault(bytes: &[u8], place: usize, count: usize) -> usize
     requires { ⌜ place + count * 2 ≤ length (now bytes) ⌝ }
     ensures { λ r. ⌜ r ≡ fault (replicate count entry) (now (bytes .entry)) place ⌝ }
 {
+    if entries_fit(bytes, place, count) {
+        return place + 2 * count;
+    }
     let mut at = place;
     let mut left = count;
     while 0 < left {
@@ -96,6 +134,9 @@ fn directions_fault(bytes: &[u8], place: usize, count: usize) -> usize
     requires { ⌜ place + count * 4 ≤ length (now bytes) ⌝ }
     ensures { λ r. ⌜ r ≡ fault (replicate count direction) (now (bytes .entry)) place ⌝ }
 {
+    if directions_fit(bytes, place, count) {
+        return place + 4 * count;
+    }
     let mut at = place;
     let mut left = count;
     while 0 < left {
@@ -112,6 +153,9 @@ pub fn multipliers_fault(bytes: &[u8], place: usize, count: usize) -> usize
     requires { ⌜ place + count * 2 ≤ length (now bytes) ⌝ }
     ensures { λ r. ⌜ r ≡ fault (replicate count multiplier) (now (bytes .entry)) place ⌝ }
 {
+    if multipliers_fit(bytes, place, count) {
+        return place + 2 * count;
+    }
     let mut at = place;
     let mut left = count;
     while 0 < left {

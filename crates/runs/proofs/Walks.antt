@@ -1,13 +1,16 @@
 -- A walk along equal parts of a body, fields or rows, from the first to the first that is out of range: the loop of every check of a
 -- run. `at` is where the walk stands and `left` how many parts are to come.
 use mathlib.Core.Path.{_≡_, refl, sym, ap, _∙_}
-use Prim.Native.Nat.{ℕ, suc, _+_, _*_, _-_, _≤_, _<_}
-use mathlib.Core.Bool.{true, false}
+use Prim.Native.Nat.{ℕ, zero, suc, _+_, _*_, _-_, _≤_, _<_}
+use mathlib.Core.Bool.{Bool, true, false, _&&_}
 use mathlib.Core.List.{List, [], _∷_, _++_}
+use native.Mathlib.Nat.{mul-suc}
+use native.Mathlib.Numerals.{add-one}
 use native.Mathlib.Omega.{arith}
 use lib.ListN.{replicate}
 use Rattle.record.specs.Fields.{width, Field, widths}
-use Rattle.runs.specs.Runs.{fits, fault}
+use Rattle.refusal.proofs.TestLaws.{both-true}
+use Rattle.runs.specs.Runs.{fits, all-fit, fault}
 use Rattle.runs.proofs.Faults.{fault-none, one-fits, one-out, stops, goes-on}
 
 module _ (parts : ℕ → List Field) (wide : ℕ) (bytes : List ℕ) (place count : ℕ) where
@@ -58,3 +61,31 @@ module _ (f : Field) (wide : ℕ) (bytes : List ℕ) (place count : ℕ) (sized 
 
   pub run-end : left ≡ 0 → at ≡ fault (replicate count f) bytes place
   run-end none = walk-end (λ k. replicate k f) wide bytes place count at left refl w none
+
+-- ---- a run whose fields all fit
+
+module _ (f : Field) (wide : ℕ) (bytes : List ℕ) (place count : ℕ) (sized : width (f .form) ≡ wide) where
+  fit-so-far : (k : ℕ) → k ≤ count → all-fit f bytes place k ≡ true → Run f wide bytes place count (place + wide * k) (count - k)
+  unfolding all-fit
+  fit-so-far zero few h =
+      let reached : place + wide * 0 ≡ place = omega arith in
+      let all : count - 0 ≡ count = omega arith in
+      rw (reached, all) (walk-start (λ k. replicate k f) wide bytes place count)
+  fit-so-far (suc k) few h =
+      let parts = both-true (all-fit f bytes place k) (fits f bytes (place + width (f .form) * k)) h in
+      let before = fit-so-far k (omega arith) (parts .0) in
+      let on : place + wide * k + wide ≡ place + wide * suc k = omega (arith, mul-suc wide k) in
+      let less : count - k - 1 ≡ count - suc k = omega arith in
+      rw (← on, ← less)
+      (run-more f wide bytes place count sized (place + wide * k) (count - k) before (omega arith) (rw sized at (parts .1)))
+
+  pub fit-none : true ≡ all-fit f bytes place 0
+  unfolding all-fit
+  fit-none = refl
+
+  pub fit-more : (k : ℕ) {all here : Bool} → all ≡ all-fit f bytes place k → here ≡ fits f bytes (place + wide * k) → (all && here) ≡ all-fit f bytes place (k + 1)
+  unfolding all-fit
+  fit-more k so-far one = rw (so-far, one, ← sized, add-one k) refl
+
+  pub all-in-range : all-fit f bytes place count ≡ true → place + wide * count ≡ fault (replicate count f) bytes place
+  all-in-range h = run-end f wide bytes place count sized (place + wide * count) (count - count) (fit-so-far count (omega arith) h) (omega arith)

@@ -21,6 +21,11 @@ fits f bytes place = within (f .range) (number-at f bytes place)
 unfoldable pub fault : List Field → List ℕ → ℕ → ℕ
 fault fs bytes place = place + before-fault fs (values fs (drop place bytes))
 
+-- each of a run of equal fields, the first of them at a place, is in range
+unfoldable pub all-fit : Field → List ℕ → ℕ → ℕ → Bool
+all-fit f bytes place zero = true
+all-fit f bytes place (suc count) = all-fit f bytes place count && fits f bytes (place + width (f .form) * count)
+
 -- ---- the parts of a body
 
 -- a row, or s and s0: some entries, and a right side
