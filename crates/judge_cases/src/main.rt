@@ -1,95 +1,25 @@
 // Runs judging and bound on S1 to S14 of 01, and through every refusal that they tell, a line each: number, place, record, outcome, and the
 // rank list afterwards (it starts as nines) or the bound.
-use libc::STDOUT_FILENO;
-use verdict::Bounded;
-use verdict::Grade;
-use verdict::Outcome;
-use verdict::Verdict;
-
-fn word(text: &[u8]) {
-    io::write_all(STDOUT_FILENO, text);
-}
-
-fn number(x: usize) {
-    word(b" ");
-    io::print_decimal(STDOUT_FILENO, x as u64);
-}
-
-fn signed(x: i64) {
-    let mut text = [0u8; 20];
-    let end = decimal::put_i64(&mut text, 0, x);
-    word(b" ");
-    word(&text[..end]);
-}
-
-fn start_and_fall(start: i64, fall: i64) {
-    signed(start);
-    signed(fall);
-}
-
-fn graded(grade: Grade) {
-    match grade {
-        Grade::Whole => word(b" whole"),
-        Grade::Fractions => word(b" fractions"),
-    }
-}
-
-fn shown(outcome: Outcome) {
-    match outcome {
-        Outcome::Nothing => word(b" nothing"),
-        Outcome::Ranking { start, fall } => {
-            word(b" ranking");
-            start_and_fall(start, fall);
-        }
-        Outcome::Exclusion { grade } => graded(grade),
-        Outcome::Lasso { start, fall } => {
-            word(b" lasso");
-            start_and_fall(start, fall);
-        }
-    }
-}
-
-fn told(name: &[u8], v: Verdict) {
-    word(name);
-    number(v.number);
-    number(v.place);
-    number(v.about);
-    let outcome = v.outcome;
-    shown(outcome);
-}
-
 fn judged(name: &[u8], rows: &[u8], certificate: &[u8]) {
     let mut rank = [9i64; 3];
-    told(name, judge::judge(rows, certificate, &mut rank));
-    word(b" rank");
-    signed(rank[0]);
-    signed(rank[1]);
-    signed(rank[2]);
-    word(b"\n");
+    let v = judge::judge(rows, certificate, &mut rank);
+    telling::judged(name, v, &rank);
 }
 
 fn judged_without_room(name: &[u8], rows: &[u8], certificate: &[u8]) {
     let mut rank = [9i64; 0];
-    told(name, judge::judge(rows, certificate, &mut rank));
-    word(b" rank\n");
-}
-
-fn bounded(name: &[u8], b: Bounded) {
-    let verdict = b.verdict;
-    told(name, verdict);
-    word(b" bound");
-    number(b.bound);
-    word(b"\n");
+    let v = judge::judge(rows, certificate, &mut rank);
+    telling::judged(name, v, &rank);
 }
 
 fn bounded_1(name: &[u8], rows: &[u8], certificate: &[u8], x: i64) {
     let state = [x; 1];
-    bounded(name, bound::bound(rows, certificate, &state));
+    telling::bounded(name, bound::bound(rows, certificate, &state));
 }
 
 fn bounded_2(name: &[u8], rows: &[u8], certificate: &[u8], x: i64, y: i64) {
     let state = [x, y];
-    bounded(name, bound::bound(rows, certificate, &state));
+    telling::bounded(name, bound::bound(rows, certificate, &state));
 }
 
 fn cases_1() {

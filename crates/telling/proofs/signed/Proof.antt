@@ -1,12 +1,12 @@
--- `judge_cases::signed` meets its contract: every number of 64 bits has at most 20 bytes of text. Assumes nothing.
+-- `telling::signed` meets its contract: every number of 64 bits has at most 20 bytes of text. Assumes nothing.
 use mathlib.Core.Path.{sym}
 use native.Mathlib.Omega.{arith}
 use lib.Seq.{length-take-le}
 use mir.Facts.{toZ-ofZ}
 use Rattle.decimal.proofs.DecimalLaws.{signed-room}
 use borrow.Author.Needs.{needs}
-use Rattle.judge_cases.proofs.signed.Statement.{statement}
-use Rattle.judge_cases.proofs.signed.Tie as tie
+use Rattle.telling.proofs.signed.Statement.{statement}
+use Rattle.telling.proofs.signed.Tie as tie
 
 slice-aggregate-put-i64 : tie.Need-slice-aggregate-put-i64
 slice-aggregate-put-i64 c = search needs

@@ -1,0 +1,81 @@
+// Prints what judging and bound answer, a line each: number, place, record, outcome, and the rank list afterwards or the bound. The programs
+// that are held to stored output share it.
+use libc::STDOUT_FILENO;
+use verdict::Bounded;
+use verdict::Grade;
+use verdict::Outcome;
+use verdict::Verdict;
+
+pub fn word(text: &[u8]) {
+    io::write_all(STDOUT_FILENO, text);
+}
+
+fn number(x: usize) {
+    word(b" ");
+    io::print_decimal(STDOUT_FILENO, x as u64);
+}
+
+fn signed(x: i64) {
+    let mut text = [0u8; 20];
+    let end = decimal::put_i64(&mut text, 0, x);
+    word(b" ");
+    word(&text[..end]);
+}
+
+fn start_and_fall(start: i64, fall: i64) {
+    signed(start);
+    signed(fall);
+}
+
+fn graded(grade: Grade) {
+    match grade {
+        Grade::Whole => word(b" whole"),
+        Grade::Fractions => word(b" fractions"),
+    }
+}
+
+fn shown(outcome: Outcome) {
+    match outcome {
+        Outcome::Nothing => word(b" nothing"),
+        Outcome::Ranking { start, fall } => {
+            word(b" ranking");
+            start_and_fall(start, fall);
+        }
+        Outcome::Exclusion { grade } => graded(grade),
+        Outcome::Lasso { start, fall } => {
+            word(b" lasso");
+            start_and_fall(start, fall);
+        }
+    }
+}
+
+fn told(name: &[u8], v: Verdict) {
+    word(name);
+    number(v.number);
+    number(v.place);
+    number(v.about);
+    let outcome = v.outcome;
+    shown(outcome);
+}
+
+fn listed(values: &[i64]) {
+    for i in 0..values.len() {
+        signed(values[i]);
+    }
+}
+
+// A verdict of judging, and the whole rank list that was lent to it.
+pub fn judged(name: &[u8], v: Verdict, rank: &[i64]) {
+    told(name, v);
+    word(b" rank");
+    listed(rank);
+    word(b"\n");
+}
+
+pub fn bounded(name: &[u8], b: Bounded) {
+    let verdict = b.verdict;
+    told(name, verdict);
+    word(b" bound");
+    number(b.bound);
+    word(b"\n");
+}
