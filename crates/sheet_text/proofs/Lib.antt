@@ -4,3 +4,4 @@ pub mod SampleText
 pub mod Sizes
 pub mod TextLaws
 pub mod WorstCase
+pub mod WrongRooms
