@@ -3,6 +3,7 @@ pub mod BoundAnswers
 pub mod Demands
 pub mod InValues
 pub mod Parts
+pub mod RefusedCalls
 pub mod SampleSheet
 pub mod StageLaws
 pub mod SumsFit
