@@ -1,4 +1,5 @@
 pub mod ColumnLaws
+pub mod LiftLaws
 pub mod ListLaws
 pub mod Sample
 pub mod SideLaws

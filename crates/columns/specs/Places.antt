@@ -2,11 +2,12 @@
 -- Rows over n variables lie one after another from `start` on, each n entries of A, n of A' and b; multipliers lie one after another from `place` on.
 use Prim.Native.Nat.{ℕ, _+_, _*_, _≤_, _<_}
 use mathlib.Core.List.{List}
-use lib.IntN.{ℤ, pos, _+ℤ_, _-ℤ_, _*ℤ_}
+use mathlib.Core.Path.{_≡_}
+use lib.IntN.{ℤ, pos, natAbs, _+ℤ_, _-ℤ_, _*ℤ_}
 use lib.ListN.{length, getD}
 use Rattle.endian.specs.Numbers.{littleAt, signed}
 use Rattle.whole.specs.Sums.{total}
-use Rattle.columns.specs.Running.{Adds, SumOf}
+use Rattle.columns.specs.Running.{CanGrow, Modest, Adds, SumOf}
 
 -- ---- numbers on file
 
@@ -85,6 +86,44 @@ pub record Visited (multiplier : ℕ) (rows : List ℕ) (first second : ℕ) (no
 pub record ColumnOf (multipliers : List ℕ) (place : ℕ) (rows : List ℕ) (start n j count : ℕ) (now next : ℤ) : Type 0 where
   pub now-sum : SumOf count mostEntry (nowTerm multipliers place rows start n j) now
   pub next-sum : SumOf count mostEntry (nextTerm multipliers place rows start n j) next
+
+-- ---- all columns' totals under one list of multipliers, side by side in a list. Entry k of a row is that of A for k below n, and that of A' after it.
+-- Each entry is lifted by 32768, so that it is never below 0; the lifts' total is the same for every column
+
+-- multiplier times entry k, and times the lift
+unfoldable pub entryTerm : List ℕ → ℕ → List ℕ → ℕ → ℕ → ℕ → ℕ → ℤ
+entryTerm multipliers place rows start n k i = multiplierAt multipliers (place + 2 * i) *ℤ entryAt rows (rowAt start n i + 2 * k)
+
+unfoldable pub liftTerm : List ℕ → ℕ → ℕ → ℤ
+liftTerm multipliers place i = multiplierAt multipliers (place + 2 * i) *ℤ pos 32768
+
+-- a total takes multiplier times lifted entry
+pub record Lifts (multiplier : ℕ) (entry before after : ℤ) : Type 0 where
+  pub is : after ≡ before +ℤ pos multiplier *ℤ (entry +ℤ pos 32768)
+  pub small : natAbs (pos multiplier *ℤ entry) ≤ mostEntry
+
+-- each of the first `width` totals takes its entry of the row at a place; the others stay
+pub record RowAdded (multiplier : ℕ) (rows : List ℕ) (row width : ℕ) (before after : List ℤ) : Type 0 where
+  pub long : length after ≡ length before
+  pub added : (k : ℕ) → k < width → Lifts multiplier (entryAt rows (row + 2 * k)) (getD before k (pos 0)) (getD after k (pos 0))
+  pub stays : (k : ℕ) → width ≤ k → getD after k (pos 0) ≡ getD before k (pos 0)
+
+-- the first `width` totals can grow
+abbrev pub AllGrow : ℕ → List ℤ → Type 0
+AllGrow width sums = (k : ℕ) → k < width → CanGrow (getD sums k (pos 0))
+
+abbrev pub AllModest : ℕ → List ℤ → Type 0
+AllModest width sums = (k : ℕ) → k < width → Modest (getD sums k (pos 0))
+
+-- they are 0
+abbrev pub AllNone : ℕ → List ℤ → Type 0
+AllNone width sums = (k : ℕ) → k < width → getD sums k (pos 0) ≡ pos 0
+
+-- they are the columns' totals over `count` rows, lifted
+pub record SumsOf (multipliers : List ℕ) (place : ℕ) (rows : List ℕ) (start n count : ℕ) (sums : List ℤ) : Type 0 where
+  pub lift-small : natAbs (total count (liftTerm multipliers place)) ≤ count * mostEntry
+  pub each : (k : ℕ) → k < 2 * n
+      → SumOf count mostEntry (entryTerm multipliers place rows start n k) (getD sums k (pos 0) -ℤ total count (liftTerm multipliers place))
 
 -- ---- along one row: A·V, A'·U, A·W and A'·W over the first `count` columns. A starts at `row`, and U, then V, then W, n entries each, at `place`
 

@@ -8,6 +8,10 @@ use Rattle.whole.specs.Sums.{total}
 abbrev pub CanGrow : ℤ → Type 0
 CanGrow sum = natAbs sum < 4611686018427387904
 
+-- a difference of two such, and a term more, fit 64 bits
+abbrev pub Modest : ℤ → Type 0
+Modest sum = natAbs sum < 1152921504606846976
+
 -- `after` is `before` and one term, which is no larger than `most`
 pub record Adds (most : ℕ) (term before after : ℤ) : Type 0 where
   pub is : after ≡ before +ℤ term

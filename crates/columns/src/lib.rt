@@ -10,7 +10,7 @@ ghost use mathlib.Core.Path.{_≡_};
 ghost use lib.IntN.{pos, natAbs, _*ℤ_};
 ghost use lib.ListN.{length};
 ghost use Rattle.whole.specs.Sums.{dot, Within};
-ghost use Rattle.columns.specs.Places.{entryAt, rightAt, rightTerm, stateTerm, RowsIn, MultipliersIn, Visited, ColumnOf, AlongOf, directionOf, stepOf, mostEntry, mostRight, mostAlong, mostState, mostRank};
+ghost use Rattle.columns.specs.Places.{entryAt, rightAt, rightTerm, stateTerm, liftTerm, Lifts, RowAdded, AllGrow, AllNone, SumsOf, RowsIn, MultipliersIn, Visited, ColumnOf, AlongOf, directionOf, stepOf, mostEntry, mostRight, mostAlong, mostState, mostRank};
 ghost use Rattle.columns.specs.Running.{CanGrow, Adds, SumOf};
 use whole::Total;
 
@@ -106,63 +106,80 @@ pub fn column_of(
     column
 }
 
-// One column's totals under two lists of multipliers.
-pub struct Both {
-    pub y: Column,
-    pub z: Column,
+// A total and one term more: the multiplier times the lifted entry at a place.
+fn add_lifted(sum: i64, multiplier: usize, rows: &[u8], place: usize) -> i64
+    requires { ⌜ CanGrow sum × (multiplier < 65536) × (place + 2 ≤ length (now rows)) ⌝ }
+    ensures { λ r. ⌜ Lifts multiplier (entryAt (now (rows .entry)) place) sum r ⌝ }
+{
+    let total = Total { sum: sum };
+    let more = total.plus(multiplier as i64, endian::lifted_at(rows, place));
+    more.sum
 }
 
-impl Both {
-    // One row more for both lists: the row is read in one visit, and not at all where neither list
-    // gives it weight.
-    fn visit(self, y: usize, z: usize, rows: &[u8], first: usize, second: usize) -> Both
-        requires { ⌜ CanGrow (self .y .now .sum) × CanGrow (self .y .next .sum) × CanGrow (self .z .now .sum) × CanGrow (self .z .next .sum)
-            × (y < 65536) × (z < 65536) × (first + 2 ≤ length (now rows)) × (second + 2 ≤ length (now rows)) ⌝ }
-        ensures { λ r. ⌜ Visited y (now (rows .entry)) first second (self .y .now .sum) (self .y .next .sum) (r .y .now .sum) (r .y .next .sum)
-            × Visited z (now (rows .entry)) first second (self .z .now .sum) (self .z .next .sum) (r .z .now .sum) (r .z .next .sum) ⌝ }
-    {
-        if y + z == 0 {
-            return self;
-        }
-        let under_y = self.y;
-        let under_z = self.z;
-        Both {
-            y: under_y.visit(y, rows, first, second),
-            z: under_z.visit(z, rows, first, second),
-        }
+// One row more for two lists of totals: the row's entries are read in one visit, several at once,
+// and not at all where neither list gives the row weight.
+fn add_row(
+    ys: &mut [i64],
+    zs: &mut [i64],
+    y: usize,
+    z: usize,
+    rows: &[u8],
+    row: usize,
+    width: usize,
+)
+    requires { ⌜ (width ≤ length (now ys)) × (width ≤ length (now zs)) × AllGrow width (now ys) × AllGrow width (now zs)
+        × (y < 65536) × (z < 65536) × (row + 2 * width ≤ length (now rows)) ⌝ }
+    ensures { λ _. ⌜ RowAdded y (now (rows .entry)) row width (now (ys .entry)) (now (ys .exit))
+        × RowAdded z (now (rows .entry)) row width (now (zs .entry)) (now (zs .exit)) ⌝ }
+{
+    if y + z == 0 {
+        return;
+    }
+    for k in 0..width {
+        ys[k] = add_lifted(ys[k], y, rows, row + 2 * k);
+        zs[k] = add_lifted(zs[k], z, rows, row + 2 * k);
     }
 }
 
-// The totals of column j under two lists of multipliers, in one visit of each row.
-pub fn columns_of(
+// The totals of all columns under two lists of multipliers, in one visit of each row. The lists of
+// totals start as zeros; every entry is lifted, as `lift_of` tells.
+pub fn add_rows(
+    ys: &mut [i64],
+    zs: &mut [i64],
     rows: &[u8],
     start: usize,
     n: usize,
-    j: usize,
     multipliers: &[u8],
     y: usize,
     z: usize,
     count: usize,
-) -> Both
-    requires { ⌜ RowsIn (now rows) start n count × (j < n) × MultipliersIn (now multipliers) y count × MultipliersIn (now multipliers) z count ⌝ }
-    ensures { λ r. ⌜ ColumnOf (now (multipliers .entry)) y (now (rows .entry)) start n j count (r .y .now .sum) (r .y .next .sum)
-        × ColumnOf (now (multipliers .entry)) z (now (rows .entry)) start n j count (r .z .now .sum) (r .z .next .sum) ⌝ }
+)
+    requires { ⌜ (2 * n ≤ length (now ys)) × (2 * n ≤ length (now zs)) × AllNone (2 * n) (now ys) × AllNone (2 * n) (now zs)
+        × RowsIn (now rows) start n count × MultipliersIn (now multipliers) y count × MultipliersIn (now multipliers) z count ⌝ }
+    ensures { λ _. ⌜ SumsOf (now (multipliers .entry)) y (now (rows .entry)) start n count (now (ys .exit))
+        × SumsOf (now (multipliers .entry)) z (now (rows .entry)) start n count (now (zs .exit)) ⌝ }
 {
     let stride = 4 * n + 4;
-    let first = 2 * j;
-    let second = 2 * n + 2 * j;
-    let mut both = Both {
-        y: Column::new(),
-        z: Column::new(),
-    };
     let mut at = start;
     for i in 0..count {
         let under_y = endian::u16_at(multipliers, y + 2 * i);
         let under_z = endian::u16_at(multipliers, z + 2 * i);
-        both = both.visit(under_y, under_z, rows, at + first, at + second);
+        add_row(ys, zs, under_y, under_z, rows, at, 2 * n);
         at += stride;
     }
-    both
+}
+
+// The total of the lifts under one list of multipliers: what each column's total has too much.
+pub fn lift_of(multipliers: &[u8], place: usize, count: usize) -> Total
+    requires { ⌜ MultipliersIn (now multipliers) place count × (count < 16384) ⌝ }
+    ensures { λ r. ⌜ SumOf count mostEntry (liftTerm (now (multipliers .entry)) place) (r .sum) ⌝ }
+{
+    let mut total = Total::new();
+    for i in 0..count {
+        let multiplier = endian::u16_at(multipliers, place + 2 * i);
+        total = total.plus(multiplier as i64, 32768);
+    }
+    total
 }
 
 // The total of the right sides under one list of multipliers.

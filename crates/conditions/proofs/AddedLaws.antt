@@ -1,30 +1,30 @@
 -- A lasso's ranking: sums over the loop with the added row are sums over the loop and one term more.
-use mathlib.Core.Path.{_≡_, sym, ap, _∙_}
+use mathlib.Core.Path.{_≡_, refl, sym, ap, _∙_}
 use Prim.Native.Nat.{ℕ, _+_, _*_, _<_, _≤_}
-use mathlib.Core.Bool.{Bool}
 use mathlib.Core.List.{List, [], _∷_, _++_}
+use native.Mathlib.Decide.{decLt}
+use native.Mathlib.Nat.{mul-le-mul-right}
 use native.Mathlib.Numerals.{add-one}
 use native.Mathlib.Omega.{arith}
-use lib.IntN.{ℤ, pos, negsuc, negℤ, _+ℤ_, _-ℤ_, _*ℤ_, +ℤ-idr, *ℤ-zero}
-use lib.ListN.{length, getD, getD-replicate, List·getD-map}
-use mir.Syntax.{w64}
-use mir.Val.{ofZ, toZ}
-use mir.Facts.{toZ-ofZ}
+use lib.IntN.{ℤ, pos, negsuc, natAbs, negℤ, _+ℤ_, _-ℤ_, _*ℤ_, +ℤ-idr, *ℤ-zero}
+use lib.ListN.{length, getD, set, length-set, getD-replicate, List·getD-map}
+use lib.Seq.{getD-set-same, getD-set-other}
 use Rattle.whole.specs.Rows.{Row}
 use Rattle.whole.specs.Sums.{dot, sum, tabulate, scale}
 use Rattle.whole.proofs.Ring.{*ℤ-neg}
-use Rattle.whole.proofs.Solve.{v, _⊗_, neg, solve}
+use Rattle.whole.proofs.Solve.{v, _⊝_, _⊗_, neg, solve}
 use Rattle.whole.proofs.SumLaws.{sum-append}
 use Rattle.whole.proofs.Tables.{length-tabulate, tabulate-more}
 use Rattle.endian.specs.Numbers.{littleAt}
 use Rattle.columns.specs.Lists.{multipliersFrom, entriesFrom, rowsFrom}
-use Rattle.columns.specs.Places.{entryAt, rightAt, multiplierAt, ColumnOf}
-use Rattle.columns.specs.Running.{CanGrow}
+use Rattle.columns.specs.Places.{entryAt, rightAt, multiplierAt, liftTerm, ColumnOf, SumsOf, AllModest, mostEntry}
+use Rattle.columns.specs.Running.{Modest, SumOf}
+use Rattle.columns.proofs.LiftLaws.{sums-size, column-in}
 use Rattle.theory.specs.Loops.{A, A′, b}
-use Rattle.conditions.specs.Decided.{Decides, ColumnHolds, EntryOf}
+use Rattle.conditions.specs.Decided.{Totalled, RowTaken}
 use Rattle.conditions.specs.Held.{loop-held, ranking-held, longer-held}
 use Rattle.conditions.proofs.CarriedLaws.{entry-is}
-use Rattle.conditions.proofs.Totals.{grown-fits, passed-grows, next-grows, now-is, next-is}
+use Rattle.conditions.proofs.Totals.{now-is, next-is}
 
 -- ---- one row more
 
@@ -74,44 +74,83 @@ module _ (rows certificate : List ℕ) (n m place s : ℕ) where
   unfolding longer-held loop-held
   right-added = sum-one-more certificate place m b (rowsFrom rows n 10 m) _ rows-long
 
--- ---- the three conditions at a column
+-- ---- the added row's terms, taken from a list of totals one after another
 
--- a total over the loop less the added row's term is the sum over the longer loop
-added-is : (rows certificate : List ℕ) (n m place s j : ℕ) (now next entry : ℤ) (last : ℕ) (added : ℤ) → j < n → m ≤ 65
-    → ColumnOf certificate place rows 10 n j m now next → entry ≡ entryAt certificate (s + 2 * j) → last ≡ littleAt 2 certificate (place + 2 * m)
-    → added ≡ now -ℤ pos last *ℤ entry → added ≡ sum (multipliersFrom certificate place (m + 1)) (A j) (longer-held rows n m certificate s .rows)
-unfolding multiplierAt
-added-is rows certificate n m place s j now next entry last added below few column entry-told last-told is =
-    is ∙ rw (now-is certificate place rows 10 n j m now next few column below, entry-told, last-told) (sym (now-added rows certificate n m place s j below))
+module _ (multiplier : ℕ) (certificate : List ℕ) (s : ℕ) (before : List ℤ) where
+  pub taken-none : RowTaken multiplier certificate s 0 before before
+  taken-none = record { long = refl; taken = λ k h. absurd (omega arith); small = λ k h. absurd (omega arith); stays = λ k h. refl }
 
-pub lasso-entry : (rows certificate : List ℕ) (n m place s j : ℕ) (answer : Bool) (ya ya2 za za2 entry : ℤ) (y-last z-last : ℕ) (y-added z-added : ℤ) → j < n → m ≤ 65
-    → ColumnOf certificate place rows 10 n j m ya ya2 → ColumnOf certificate (place + 2 * (m + 1)) rows 10 n j m za za2
-    → entry ≡ entryAt certificate (s + 2 * j) → y-last ≡ littleAt 2 certificate (place + 2 * m) → z-last ≡ littleAt 2 certificate (place + 2 * (m + 1) + 2 * m)
-    → y-added ≡ ya -ℤ pos y-last *ℤ entry → z-added ≡ za -ℤ pos z-last *ℤ entry → CanGrow y-added → CanGrow z-added
-    → Decides answer (ColumnHolds (toZ w64 (ofZ w64 y-added)) (toZ w64 (ofZ w64 ya2)) (toZ w64 (ofZ w64 z-added)) (toZ w64 (ofZ w64 za2)))
-    → EntryOf (record { holds = answer; value = toZ w64 (ofZ w64 za2) }) (longer-held rows n m certificate s) (ranking-held certificate place (m + 1)) j
-unfolding ranking-held
-lasso-entry rows certificate n m place s j answer ya ya2 za za2 entry y-last z-last y-added z-added below few y z entry-told y-told z-told y-is z-is y-grows z-grows d =
+  pub taken-more : (k : ℕ) (mid : List ℤ) (value : ℤ) → RowTaken multiplier certificate s k before mid → k < length before
+      → value ≡ getD mid k (pos 0) -ℤ pos multiplier *ℤ entryAt certificate (s + 2 * k) → natAbs value ≤ natAbs (getD mid k (pos 0)) + mostEntry
+      → RowTaken multiplier certificate s (k + 1) before (set mid k value)
+  taken-more k mid value h below is small =
+      record {
+        long = length-set mid k value ∙ h .long;
+        taken = λ i i-below. here-or-before i (λ z w. z ≡ w -ℤ pos multiplier *ℤ entryAt certificate (s + 2 * i)) (h .taken i) (λ e. rw e is) i-below;
+        small = λ i i-below. here-or-before i (λ z w. natAbs z ≤ natAbs w + mostEntry) (h .small i) (λ e. small) i-below;
+        stays = λ i later. getD-set-other mid k i value (pos 0) (λ e. omega arith) ∙ h .stays i (omega arith);
+      }
+    where
+      here-or-before : (i : ℕ) (P : ℤ → ℤ → Type 0) → (i < k → P (getD mid i (pos 0)) (getD before i (pos 0))) → (i ≡ k → P value (getD mid k (pos 0)))
+          → i < k + 1 → P (getD (set mid k value) i (pos 0)) (getD before i (pos 0))
+      here-or-before i P earlier now i-below =
+          elim (decLt i k) [
+            | yes below-k ↦ rw (getD-set-other mid k i value (pos 0) (λ e. omega arith)) (earlier below-k)
+            | no not-below ↦
+                let same : i ≡ k = omega arith in
+                rw (same, getD-set-same mid k value (pos 0) (omega (arith, h .long)), ← h .stays k (omega arith)) (now same)
+          ]
+
+  -- the total that is taken from next
+  pub next-modest : (k width : ℕ) (mid : List ℤ) → RowTaken multiplier certificate s k before mid → AllModest width before → k < width → Modest (getD mid k (pos 0))
+  next-modest k width mid h modest below = rw (h .stays k (omega arith)) (modest k below)
+
+-- what is left of a loop's totals is small
+pub taken-modest : (rows certificate : List ℕ) (n m place s last : ℕ) (sums taken : List ℤ) → m ≤ 64 → SumsOf certificate place rows 10 n m sums → RowTaken last certificate s n sums taken → AllModest (2 * n) taken
+taken-modest rows certificate n m place s last sums taken few h row k below =
+    let size = sums-size certificate place rows 10 n m sums h k below in
+    let most = mul-le-mul-right 2147450880 few in
+    elim (decLt k n) [
+      | yes earlier ↦ omega (arith, row .small k earlier, size, most)
+      | no later ↦ rw (row .stays k (omega arith)) (omega (arith, size, most))
+    ]
+
+-- ---- the totals of every column
+
+module _ (rows certificate : List ℕ) (n m place s : ℕ) (sums taken : List ℤ) (lift : ℤ) (last j : ℕ) (below : j < n) (few : m ≤ 65)
+    (column : ColumnOf certificate place rows 10 n j m (getD sums j (pos 0) -ℤ lift) (getD sums (n + j) (pos 0) -ℤ lift)) (row : RowTaken last certificate s n sums taken) where
+  over-now : last ≡ littleAt 2 certificate (place + 2 * m)
+      → getD taken j (pos 0) -ℤ lift ≡ sum (multipliersFrom certificate place (m + 1)) (A j) (longer-held rows n m certificate s .rows)
+  unfolding multiplierAt
+  over-now told =
+      rw (
+        row .taken j below,
+        exchanged (getD sums j (pos 0)) (pos last *ℤ entryAt certificate (s + 2 * j)) lift,
+        now-is certificate place rows 10 n j m _ _ few column below,
+        told,
+      ) (sym (now-added rows certificate n m place s j below))
+    where
+      exchanged : (x t l : ℤ) → x -ℤ t -ℤ l ≡ x -ℤ l -ℤ t
+      exchanged x t l = solve ((v x ⊝ v t) ⊝ v l) ((v x ⊝ v l) ⊝ v t) (omega arith)
+
+  over-next : getD taken (n + j) (pos 0) -ℤ lift ≡ sum (multipliersFrom certificate place (m + 1)) (A′ j) (longer-held rows n m certificate s .rows)
+  over-next =
+      rw (row .stays (n + j) (omega arith)) (next-is certificate place rows 10 n j m _ _ few column below) ∙ sym (next-added rows certificate n m place s j below)
+
+-- the loop's lifted totals, those over A less the added row's term, and less the lifts
+pub totalled-longer : (rows certificate : List ℕ) (n m place s : ℕ) (ys ys′ : List ℤ) (ylift : ℤ) (zs zs′ : List ℤ) (zlift : ℤ) (y-last z-last : ℕ) → m ≤ 65
+    → let z-place = place + 2 * (m + 1) in
+    SumsOf certificate place rows 10 n m ys → RowTaken y-last certificate s n ys ys′ → SumOf m mostEntry (liftTerm certificate place) ylift
+    → SumsOf certificate z-place rows 10 n m zs → RowTaken z-last certificate s n zs zs′ → SumOf m mostEntry (liftTerm certificate z-place) zlift
+    → y-last ≡ littleAt 2 certificate (place + 2 * m) → z-last ≡ littleAt 2 certificate (z-place + 2 * m)
+    → Totalled ys′ ylift zs′ zlift (longer-held rows n m certificate s) (ranking-held certificate place (m + 1))
+unfolding longer-held loop-held ranking-held
+totalled-longer rows certificate n m place s ys ys′ ylift zs zs′ zlift y-last z-last few y y-taken y-lift z z-taken z-lift y-told z-told j below =
     let z-place = place + 2 * (m + 1) in
-    let ya2-grows = next-grows certificate place rows 10 n j m ya ya2 few y in
-    let za2-grows = next-grows certificate z-place rows 10 n j m za za2 few z in
-    let ya2-is : ya2 ≡ sum (multipliersFrom certificate place (m + 1)) (A′ j) (longer-held rows n m certificate s .rows) =
-    next-is certificate place rows 10 n j m ya ya2 few y below ∙ sym (next-added rows certificate n m place s j below)
-    in
-    let za2-is : za2 ≡ sum (multipliersFrom certificate z-place (m + 1)) (A′ j) (longer-held rows n m certificate s .rows) =
-    next-is certificate z-place rows 10 n j m za za2 few z below ∙ sym (next-added rows certificate n m z-place s j below)
-    in
-    let told : Decides answer (ColumnHolds y-added ya2 z-added za2) =
-    rw (toZ-ofZ (grown-fits y-grows), toZ-ofZ (grown-fits ya2-grows), toZ-ofZ (grown-fits z-grows), toZ-ofZ (grown-fits za2-grows)) at d
-    in
-    record {
-      decided =
-          rw (
-            ← added-is rows certificate n m place s j ya ya2 entry y-last y-added below few y entry-told y-told y-is,
-            ← ya2-is,
-            ← added-is rows certificate n m z-place s j za za2 entry z-last z-added below few z entry-told z-told z-is,
-            ← za2-is,
-          ) told;
-      value-is = toZ-ofZ (grown-fits za2-grows) ∙ za2-is;
-      value-grows = passed-grows za2 za2-grows;
-    }
+    let under-y = column-in certificate place rows 10 n m j ys ylift y y-lift below in
+    let under-z = column-in certificate z-place rows 10 n m j zs zlift z z-lift below in (
+      over-now rows certificate n m place s ys ys′ ylift y-last j below few under-y y-taken y-told,
+      over-next rows certificate n m place s ys ys′ ylift y-last j below few under-y y-taken,
+      over-now rows certificate n m z-place s zs zs′ zlift z-last j below few under-z z-taken z-told,
+      over-next rows certificate n m z-place s zs zs′ zlift z-last j below few under-z z-taken,
+    )

@@ -5,18 +5,20 @@ use mathlib.Core.Bool.{Bool}
 use mathlib.Core.List.{List}
 use native.Mathlib.Nat.{mul-le-mul-right}
 use native.Mathlib.Omega.{arith}
-use lib.IntN.{ℤ, natAbs}
+use lib.IntN.{ℤ, pos, natAbs}
+use lib.ListN.{replicate, getD-replicate}
 use mir.Syntax.{w64}
 use mir.Val.{SFits, ofZ, toZ}
 use mir.Facts.{toZ-ofZ}
 use Rattle.whole.specs.Sums.{sum}
 use Rattle.whole.proofs.Size.{fits-abs}
 use Rattle.columns.specs.Lists.{multipliersFrom, rowsFrom}
-use Rattle.columns.specs.Places.{rightTerm, ColumnOf}
-use Rattle.columns.specs.Running.{CanGrow, SumOf}
+use Rattle.columns.specs.Places.{rightTerm, liftTerm, ColumnOf, SumsOf, AllNone, mostEntry}
+use Rattle.columns.specs.Running.{CanGrow, Modest, SumOf}
+use Rattle.columns.proofs.LiftLaws.{column-in}
 use Rattle.columns.proofs.ListLaws.{now-over-rows, next-over-rows, right-over-rows}
 use Rattle.theory.specs.Loops.{A, A′, b}
-use Rattle.conditions.specs.Decided.{Decides, ColumnHolds, ColumnAt, EntryOf}
+use Rattle.conditions.specs.Decided.{Decides, ColumnHolds, EntryBy, Totalled}
 use Rattle.conditions.specs.Held.{loop-held, ranking-held}
 
 -- ---- sizes
@@ -48,50 +50,52 @@ pub right-is : (multipliers : List ℕ) (place : ℕ) (rows : List ℕ) (start n
     → s ≡ sum (multipliersFrom multipliers place count) b (rowsFrom rows n start count)
 right-is multipliers place rows start n count s h = h .is ∙ right-over-rows multipliers place rows start n count
 
--- ---- the three conditions at a column of a ranking record
-
-pub column-decided : (rows certificate : List ℕ) (n m place j : ℕ) (answer : Bool) (ya ya2 za za2 : ℤ) → j < n → m ≤ 65
-    → ColumnOf certificate place rows 10 n j m ya ya2 → ColumnOf certificate (place + 2 * m) rows 10 n j m za za2
-    → Decides answer (ColumnHolds (toZ w64 (ofZ w64 ya)) (toZ w64 (ofZ w64 ya2)) (toZ w64 (ofZ w64 za)) (toZ w64 (ofZ w64 za2)))
-    → Decides answer (ColumnAt (loop-held rows n m) (ranking-held certificate place m) j)
-unfolding loop-held ranking-held
-column-decided rows certificate n m place j answer ya ya2 za za2 below few y z d =
-    rw (
-      ← now-is certificate place rows 10 n j m ya ya2 few y below,
-      ← next-is certificate place rows 10 n j m ya ya2 few y below,
-      ← now-is certificate (place + 2 * m) rows 10 n j m za za2 few z below,
-      ← next-is certificate (place + 2 * m) rows 10 n j m za za2 few z below,
-    )
-    (rw (
-      toZ-ofZ (grown-fits (now-grows certificate place rows 10 n j m ya ya2 few y)),
-      toZ-ofZ (grown-fits (next-grows certificate place rows 10 n j m ya ya2 few y)),
-      toZ-ofZ (grown-fits (now-grows certificate (place + 2 * m) rows 10 n j m za za2 few z)),
-      toZ-ofZ (grown-fits (next-grows certificate (place + 2 * m) rows 10 n j m za za2 few z)),
-    ) at d)
+-- ---- the three conditions at a column
 
 -- what is passed on can grow as well
 pub passed-grows : (s : ℤ) → CanGrow s → CanGrow (toZ w64 (ofZ w64 s))
 passed-grows s h = rw (toZ-ofZ (grown-fits h)) h
 
-pub entry-of : (rows certificate : List ℕ) (n m place j : ℕ) (answer : Bool) (ya ya2 za za2 : ℤ) → j < n → m ≤ 65
-    → ColumnOf certificate place rows 10 n j m ya ya2 → ColumnOf certificate (place + 2 * m) rows 10 n j m za za2
+-- a column whose totals, as they are passed on, are tested
+pub entry-by : (answer : Bool) (ya ya2 za za2 : ℤ) → CanGrow ya → CanGrow ya2 → CanGrow za → CanGrow za2
     → Decides answer (ColumnHolds (toZ w64 (ofZ w64 ya)) (toZ w64 (ofZ w64 ya2)) (toZ w64 (ofZ w64 za)) (toZ w64 (ofZ w64 za2)))
-    → EntryOf (record { holds = answer; value = toZ w64 (ofZ w64 za2) }) (loop-held rows n m) (ranking-held certificate place m) j
-unfolding loop-held ranking-held
-entry-of rows certificate n m place j answer ya ya2 za za2 below few y z d =
-    let grows = next-grows certificate (place + 2 * m) rows 10 n j m za za2 few z in
+    → EntryBy (record { holds = answer; value = toZ w64 (ofZ w64 za2) }) ya ya2 za za2
+entry-by answer ya ya2 za za2 ya-grows ya2-grows za-grows za2-grows d =
     record {
-      decided = column-decided rows certificate n m place j answer ya ya2 za za2 below few y z d;
-      value-is = toZ-ofZ (grown-fits grows) ∙ next-is certificate (place + 2 * m) rows 10 n j m za za2 few z below;
-      value-grows = passed-grows za2 grows;
+      decided = rw (toZ-ofZ (grown-fits ya-grows), toZ-ofZ (grown-fits ya2-grows), toZ-ofZ (grown-fits za-grows), toZ-ofZ (grown-fits za2-grows)) at d;
+      value-is = toZ-ofZ (grown-fits za2-grows);
+      value-grows = passed-grows za2 za2-grows;
     }
 
--- a column's total and one term more fit as well
-pub now-small : (multipliers : List ℕ) (place : ℕ) (rows : List ℕ) (start n j count : ℕ) (now next : ℤ) → count ≤ 64 → ColumnOf multipliers place rows start n j count now next
-    → natAbs (toZ w64 (ofZ w64 now)) ≤ 139586437120
-now-small multipliers place rows start n j count now next few h =
-    let small : natAbs now ≤ 139586437120 = omega (arith, h .now-sum .small, mul-le-mul-right 2147450880 few) in
-    rw (toZ-ofZ (fits-abs {z = now} (omega arith))) small
+-- the lifted totals of a ranking record's rows, less the lifts
+pub totalled : (rows certificate : List ℕ) (n m place : ℕ) (ys : List ℤ) (ylift : ℤ) (zs : List ℤ) (zlift : ℤ) → m ≤ 65
+    → SumsOf certificate place rows 10 n m ys → SumOf m mostEntry (liftTerm certificate place) ylift
+    → SumsOf certificate (place + 2 * m) rows 10 n m zs → SumOf m mostEntry (liftTerm certificate (place + 2 * m)) zlift
+    → Totalled ys ylift zs zlift (loop-held rows n m) (ranking-held certificate place m)
+unfolding loop-held ranking-held
+totalled rows certificate n m place ys ylift zs zlift few y y-lift z z-lift j below =
+    let under-y = column-in certificate place rows 10 n m j ys ylift y y-lift below in
+    let under-z = column-in certificate (place + 2 * m) rows 10 n m j zs zlift z z-lift below in (
+      now-is certificate place rows 10 n j m _ _ few under-y below,
+      next-is certificate place rows 10 n j m _ _ few under-y below,
+      now-is certificate (place + 2 * m) rows 10 n j m _ _ few under-z below,
+      next-is certificate (place + 2 * m) rows 10 n j m _ _ few under-z below,
+    )
+
+-- a list of zeros to start from
+pub zeros : (width : ℕ) → width ≤ 32 → AllNone width (replicate 32 (pos 0))
+zeros width few k below = getD-replicate 32 k (pos 0) (pos 0) (omega arith)
+
+-- what is small enough for a difference fits, and is passed on so
+pub modest-fits : {s : ℤ} → Modest s → SFits w64 s
+modest-fits h = fits-abs (omega arith)
+
+pub passed-modest : (s : ℤ) → Modest s → Modest (toZ w64 (ofZ w64 s))
+passed-modest s h = rw (toZ-ofZ (modest-fits h)) h
+
+-- the lifts are small
+pub lift-modest : (count : ℕ) (term : ℕ → ℤ) (s : ℤ) → count ≤ 65 → SumOf count mostEntry term s → Modest s
+lift-modest count term s few h = omega (arith, h .small, mul-le-mul-right 2147450880 few)
 
 pub right-small : (count : ℕ) (term : ℕ → ℤ) (s : ℤ) → count ≤ 65 → SumOf count 140735340871680 term s → natAbs (toZ w64 (ofZ w64 s)) ≤ 9147797156659200
 right-small count term s few h =

@@ -1,8 +1,8 @@
 -- What the tests of a certificate's conditions tell: whether they hold, and of a ranking what it then shows.
-use Prim.Native.Nat.{ℕ, _<_}
+use Prim.Native.Nat.{ℕ, _+_, _*_, _≤_, _<_}
 use mathlib.Core.Path.{_≡_}
 use mathlib.Core.Bool.{Bool, true, false}
-use lib.IntN.{ℤ, pos, negℤ, _+ℤ_, _*ℤ_}
+use lib.IntN.{ℤ, pos, natAbs, negℤ, _+ℤ_, _-ℤ_, _*ℤ_}
 use lib.Signed.{_≤ℤ_, _<ℤ_}
 use mathlib.Core.List.{List}
 use lib.ListN.{length, getD, take}
@@ -10,9 +10,11 @@ use Rattle.theory.specs.Loops.{A, A′, b, Loop, Meets}
 use Rattle.theory.specs.Exclusions.{Exclusion, Stays}
 use Rattle.theory.specs.Lassos.{Lasso, LassoHolds, longer}
 use Rattle.theory.specs.Rankings.{Ranking, RankingHolds, rank, start, fall}
+use Rattle.columns.specs.Places.{entryAt, mostEntry}
 use Rattle.columns.specs.Running.{CanGrow}
 use Rattle.conditions.specs.declared.Entry.{Entry}
 use Rattle.conditions.specs.declared.Ranked.{Ranked}
+use Rattle.conditions.specs.declared.Ranks.{Ranks}
 use Rattle.whole.specs.Rows.{Row}
 use Rattle.whole.specs.Sums.{sum, less}
 
@@ -30,11 +32,42 @@ pub record ColumnHolds (y-now y-next z-now z-next : ℤ) : Type 0 where
 abbrev pub ColumnAt : Loop → Ranking → ℕ → Type 0
 ColumnAt loop c j = ColumnHolds (sum (c .Y) (A j) (loop .rows)) (sum (c .Y) (A′ j) (loop .rows)) (sum (c .Z) (A j) (loop .rows)) (sum (c .Z) (A′ j) (loop .rows))
 
--- whether column j meets them, and its entry of the rank
-pub record EntryOf (r : Entry) (loop : Loop) (c : Ranking) (j : ℕ) : Type 0 where
-  pub decided : Decides (r .holds) (ColumnAt loop c j)
-  pub value-is : r .value ≡ sum (c .Z) (A′ j) (loop .rows)
+-- whether a column of these totals meets them, and its entry of the rank
+pub record EntryBy (r : Entry) (y-now y-next z-now z-next : ℤ) : Type 0 where
+  pub decided : Decides (r .holds) (ColumnHolds y-now y-next z-now z-next)
+  pub value-is : r .value ≡ z-next
   pub value-grows : CanGrow (r .value)
+
+-- column j of lists of lifted totals, n over A and then n over A', meets them
+abbrev pub ColumnIn : List ℤ → ℤ → List ℤ → ℤ → ℕ → ℕ → Type 0
+ColumnIn ys ylift zs zlift n j =
+    ColumnHolds (getD ys j (pos 0) -ℤ ylift) (getD ys (n + j) (pos 0) -ℤ ylift) (getD zs j (pos 0) -ℤ zlift) (getD zs (n + j) (pos 0) -ℤ zlift)
+
+-- those totals are the sums of a loop and a ranking
+abbrev pub Totalled : List ℤ → ℤ → List ℤ → ℤ → Loop → Ranking → Type 0
+Totalled ys ylift zs zlift loop c =
+    (j : ℕ) → j < loop .variables
+    → (getD ys j (pos 0) -ℤ ylift ≡ sum (c .Y) (A j) (loop .rows)) × (getD ys (loop .variables + j) (pos 0) -ℤ ylift ≡ sum (c .Y) (A′ j) (loop .rows))
+    × (getD zs j (pos 0) -ℤ zlift ≡ sum (c .Z) (A j) (loop .rows)) × (getD zs (loop .variables + j) (pos 0) -ℤ zlift ≡ sum (c .Z) (A′ j) (loop .rows))
+
+-- whether all columns do; and then the entries of the rank
+pub record RanksBy (r : Ranks) (ys : List ℤ) (ylift : ℤ) (zs : List ℤ) (zlift : ℤ) (n : ℕ) : Type 0 where
+  pub decided : Decides (r .holds) ((j : ℕ) → j < n → ColumnIn ys ylift zs zlift n j)
+  pub entries : r .holds ≡ true → (j : ℕ) → j < n → getD (r .rank) j (pos 0) ≡ getD zs (n + j) (pos 0) -ℤ zlift
+  pub long : r .holds ≡ true → length (r .rank) ≡ 16
+
+-- the same of a loop and a ranking
+pub record ColumnsBy (r : Ranks) (loop : Loop) (c : Ranking) : Type 0 where
+  pub decided : Decides (r .holds) ((j : ℕ) → j < loop .variables → ColumnAt loop c j)
+  pub entries : r .holds ≡ true → (j : ℕ) → j < loop .variables → getD (r .rank) j (pos 0) ≡ sum (c .Z) (A′ j) (loop .rows)
+  pub long : r .holds ≡ true → length (r .rank) ≡ 16
+
+-- the first n of a list of totals, each less a multiplier times an entry of s, which lies from a place on; the others stay
+pub record RowTaken (multiplier : ℕ) (certificate : List ℕ) (s n : ℕ) (before after : List ℤ) : Type 0 where
+  pub long : length after ≡ length before
+  pub taken : (k : ℕ) → k < n → getD after k (pos 0) ≡ getD before k (pos 0) -ℤ pos multiplier *ℤ entryAt certificate (s + 2 * k)
+  pub small : (k : ℕ) → k < n → natAbs (getD after k (pos 0)) ≤ natAbs (getD before k (pos 0)) + mostEntry
+  pub stays : (k : ℕ) → n ≤ k → getD after k (pos 0) ≡ getD before k (pos 0)
 
 -- the fourth condition, and what is then shown: start -Yb, fall -Zb, and the rank
 pub record Shows (y-right z-right : ℤ) (rank : List ℤ) (r : Ranked) : Type 0 where

@@ -6,10 +6,10 @@ ghost use lib.IntN.{pos, negℤ, natAbs, _+ℤ_, _-ℤ_, _*ℤ_};
 ghost use Rattle.whole.specs.Sums.{sum};
 ghost use Rattle.theory.specs.Loops.{b};
 ghost use lib.Signed.{_≤ℤ_};
-ghost use lib.ListN.{length};
-ghost use Rattle.columns.specs.Places.{rightAt, RowsIn, MultipliersIn};
-ghost use Rattle.columns.specs.Running.{CanGrow};
-ghost use Rattle.conditions.specs.Decided.{Decides, ColumnHolds, EntryOf, Shows, RankedBy, RowExcluded, CarriedAt, Carried, Starts, Keeps, LassoBy};
+ghost use lib.ListN.{length, getD};
+ghost use Rattle.columns.specs.Places.{entryAt, rightAt, RowsIn, MultipliersIn, AllModest};
+ghost use Rattle.columns.specs.Running.{CanGrow, Modest};
+ghost use Rattle.conditions.specs.Decided.{Decides, ColumnHolds, EntryBy, RanksBy, ColumnsBy, RowTaken, Shows, RankedBy, RowExcluded, CarriedAt, Carried, Starts, Keeps, LassoBy};
 ghost use Rattle.conditions.specs.Held.{loop-held, ranking-held, exclusion-held, LassoIn, lasso-held, longer-held};
 ghost use Rattle.columns.specs.Lists.{multipliersFrom, entriesFrom, rowFrom, rowsFrom};
 ghost use Rattle.theory.specs.Exclusions.{ExclusionHolds};
@@ -19,6 +19,12 @@ pub struct Ranked {
     pub holds: bool,
     pub start: i64,
     pub fall: i64,
+    pub rank: [i64; 16],
+}
+
+// Its first three conditions: whether they hold, and then the rank's entries.
+pub struct Ranks {
+    pub holds: bool,
     pub rank: [i64; 16],
 }
 
@@ -53,47 +59,81 @@ fn column_holds(ya: i64, ya2: i64, za: i64, za2: i64) -> bool
     za + za2 == 0
 }
 
-// Column j of a ranking whose Y and Z lie from a place on.
-fn ranked_column(
-    rows: &[u8],
-    n: usize,
-    m: usize,
-    j: usize,
-    certificate: &[u8],
-    place: usize,
-) -> Entry
-    requires { ⌜ RowsIn (now rows) 10 n m × (j < n) × (m ≤ 64) × (place < 65536) × MultipliersIn (now certificate) (place + 2 * m) m ⌝ }
-    ensures { λ r. ⌜ EntryOf r (loop-held (now (rows .entry)) n m) (ranking-held (now (certificate .entry)) place m) j ⌝ }
+// A column's total out of a list of lifted ones.
+fn unlifted(sums: &[i64], k: usize, lift: i64) -> i64
+    requires { ⌜ (k < length (now sums)) × Modest (getD (now sums) k (pos 0)) × Modest lift ⌝ }
+    ensures { λ r. ⌜ (r ≡ getD (now (sums .entry)) k (pos 0) -ℤ lift) × (natAbs r < 2305843009213693952) ⌝ }
 {
-    let both = columns::columns_of(rows, 10, n, j, certificate, place, place + 2 * m, m);
-    let y = both.y;
-    let z = both.z;
-    let ya = y.now;
-    let ya2 = y.next;
-    let za = z.now;
-    let za2 = z.next;
+    sums[k] - lift
+}
+
+// Column j of a ranking, out of the lifted totals under Y and Z.
+fn ranked_column(ys: &[i64], zs: &[i64], n: usize, j: usize, ylift: i64, zlift: i64) -> Entry
+    requires { ⌜ (2 * n ≤ length (now ys)) × (2 * n ≤ length (now zs)) × (n ≤ 16) × (j < n)
+        × AllModest (2 * n) (now ys) × AllModest (2 * n) (now zs) × Modest ylift × Modest zlift ⌝ }
+    ensures { λ r. ⌜ EntryBy r (getD (now (ys .entry)) j (pos 0) -ℤ ylift) (getD (now (ys .entry)) (n + j) (pos 0) -ℤ ylift)
+        (getD (now (zs .entry)) j (pos 0) -ℤ zlift) (getD (now (zs .entry)) (n + j) (pos 0) -ℤ zlift) ⌝ }
+{
+    let ya = unlifted(ys, j, ylift);
+    let ya2 = unlifted(ys, n + j, ylift);
+    let za = unlifted(zs, j, zlift);
+    let za2 = unlifted(zs, n + j, zlift);
     Entry {
-        holds: column_holds(ya.sum, ya2.sum, za.sum, za2.sum),
-        value: za2.sum,
+        holds: column_holds(ya, ya2, za, za2),
+        value: za2,
     }
 }
 
-// Kind 2: YA' = 0; (Y - Z)A = 0; Z(A + A') = 0; Zb < 0.
-pub fn ranking(rows: &[u8], n: usize, m: usize, certificate: &[u8]) -> Ranked
-    requires { ⌜ RowsIn (now rows) 10 n m × (n ≤ 16) × (m ≤ 64) × MultipliersIn (now certificate) (6 + 2 * m) m ⌝ }
-    ensures { λ r. ⌜ RankedBy r (loop-held (now (rows .entry)) n m) (ranking-held (now (certificate .entry)) 6 m) ⌝ }
+// The first three conditions at every column, out of the lifted totals under Y and Z.
+fn all_columns(ys: &[i64], zs: &[i64], n: usize, ylift: i64, zlift: i64) -> Ranks
+    requires { ⌜ (2 * n ≤ length (now ys)) × (2 * n ≤ length (now zs)) × (n ≤ 16)
+        × AllModest (2 * n) (now ys) × AllModest (2 * n) (now zs) × Modest ylift × Modest zlift ⌝ }
+    ensures { λ r. ⌜ RanksBy r (now (ys .entry)) ylift (now (zs .entry)) zlift n ⌝ }
 {
     let mut rank = [0i64; 16];
     for j in 0..n {
-        let entry = ranked_column(rows, n, m, j, certificate, 6);
+        let entry = ranked_column(ys, zs, n, j, ylift, zlift);
         if !entry.holds {
-            return fails();
+            return Ranks {
+                holds: false,
+                rank: rank,
+            };
         }
         let value = entry.value;
         rank[j] = value;
     }
+    Ranks {
+        holds: true,
+        rank: rank,
+    }
+}
+
+// The first three conditions of kind 2: YA' = 0; (Y - Z)A = 0; Z(A + A') = 0.
+fn loop_columns(rows: &[u8], n: usize, m: usize, certificate: &[u8]) -> Ranks
+    requires { ⌜ RowsIn (now rows) 10 n m × (n ≤ 16) × (m ≤ 64) × MultipliersIn (now certificate) (6 + 2 * m) m ⌝ }
+    ensures { λ r. ⌜ ColumnsBy r (loop-held (now (rows .entry)) n m) (ranking-held (now (certificate .entry)) 6 m) ⌝ }
+{
+    let z = 6 + 2 * m;
+    let mut ys = [0i64; 32];
+    let mut zs = [0i64; 32];
+    columns::add_rows(&mut ys, &mut zs, rows, 10, n, certificate, 6, z, m);
+    let ylift = columns::lift_of(certificate, 6, m);
+    let zlift = columns::lift_of(certificate, z, m);
+    all_columns(&ys, &zs, n, ylift.sum, zlift.sum)
+}
+
+// Kind 2: those three, and Zb < 0.
+pub fn ranking(rows: &[u8], n: usize, m: usize, certificate: &[u8]) -> Ranked
+    requires { ⌜ RowsIn (now rows) 10 n m × (n ≤ 16) × (m ≤ 64) × MultipliersIn (now certificate) (6 + 2 * m) m ⌝ }
+    ensures { λ r. ⌜ RankedBy r (loop-held (now (rows .entry)) n m) (ranking-held (now (certificate .entry)) 6 m) ⌝ }
+{
+    let found = loop_columns(rows, n, m, certificate);
+    if !found.holds {
+        return fails();
+    }
     let yb = columns::right_of(rows, 10, n, certificate, 6, m);
     let zb = columns::right_of(rows, 10, n, certificate, 6 + 2 * m, m);
+    let rank = found.rank;
     shown(yb.sum, zb.sum, rank)
 }
 
@@ -229,43 +269,22 @@ fn carried(
     right_carries(right.sum, endian::i32_at(certificate, s + 2 * n), h, k)
 }
 
-// Column j of a lasso's ranking: the loop's rows and the added row -s·x <= s0, whose multipliers are the last of Y and of Z.
-fn lasso_column(
-    rows: &[u8],
-    n: usize,
-    m: usize,
-    j: usize,
-    certificate: &[u8],
-    place: usize,
-    s: usize,
-) -> Entry
-    requires { ⌜ RowsIn (now rows) 10 n m × (j < n) × (m ≤ 64) × (n ≤ 16) × (place < 65536) × (s < 65536)
-        × (place + 4 * (m + 1) ≤ length (now certificate)) × (s + 2 * n + 4 ≤ length (now certificate)) ⌝ }
-    ensures { λ r. ⌜ EntryOf r (longer-held (now (rows .entry)) n m (now (certificate .entry)) s) (ranking-held (now (certificate .entry)) place (m + 1)) j ⌝ }
-{
-    let z = place + 2 * (m + 1);
-    let both = columns::columns_of(rows, 10, n, j, certificate, place, z, m);
-    let entry = endian::i16_at(certificate, s + 2 * j);
-    let under_y = both.y;
-    let under_z = both.z;
-    let ya = under_y.now;
-    let ya2 = under_y.next;
-    let za = under_z.now;
-    let za2 = under_z.next;
-    let y_added = less_times(ya.sum, endian::u16_at(certificate, place + 2 * m), entry);
-    let z_added = less_times(za.sum, endian::u16_at(certificate, z + 2 * m), entry);
-    Entry {
-        holds: column_holds(y_added, ya2.sum, z_added, za2.sum),
-        value: za2.sum,
-    }
-}
-
 // A total less a multiplier times an entry: one row more, which is minus that entry.
 fn less_times(total: i64, k: usize, z: i64) -> i64
-    requires { ⌜ (natAbs total ≤ 139586437120) × (k < 65536) × (natAbs z ≤ 32768) ⌝ }
-    ensures { λ r. ⌜ (r ≡ total -ℤ pos k *ℤ z) × CanGrow r ⌝ }
+    requires { ⌜ Modest total × (k < 65536) × (natAbs z ≤ 32768) ⌝ }
+    ensures { λ r. ⌜ (r ≡ total -ℤ pos k *ℤ z) × (natAbs r ≤ natAbs total + 2147450880) ⌝ }
 {
     total - times(k, z)
+}
+
+// The added row -s·x <= s0 of a lasso: each of the first n totals less its multiplier times s's entry.
+fn take_row(sums: &mut [i64], n: usize, multiplier: usize, certificate: &[u8], s: usize)
+    requires { ⌜ (n ≤ length (now sums)) × AllModest n (now sums) × (multiplier < 65536) × (s < 65536) × (n ≤ 16) × (s + 2 * n ≤ length (now certificate)) ⌝ }
+    ensures { λ _. ⌜ RowTaken multiplier (now (certificate .entry)) s n (now (sums .entry)) (now (sums .exit)) ⌝ }
+{
+    for j in 0..n {
+        sums[j] = less_times(sums[j], multiplier, endian::i16_at(certificate, s + 2 * j));
+    }
 }
 
 // A total and a multiplier times a right side: one row more.
@@ -290,6 +309,42 @@ fn lasso_right(rows: &[u8], n: usize, m: usize, certificate: &[u8], place: usize
     )
 }
 
+// The first three conditions of a lasso's ranking, over the loop with the added row.
+fn longer_columns(
+    rows: &[u8],
+    n: usize,
+    m: usize,
+    certificate: &[u8],
+    place: usize,
+    s: usize,
+) -> Ranks
+    requires { ⌜ RowsIn (now rows) 10 n m × (m ≤ 64) × (n ≤ 16) × (place < 65536) × (s < 65536)
+        × (place + 4 * (m + 1) ≤ length (now certificate)) × (s + 2 * n + 4 ≤ length (now certificate)) ⌝ }
+    ensures { λ r. ⌜ ColumnsBy r (longer-held (now (rows .entry)) n m (now (certificate .entry)) s) (ranking-held (now (certificate .entry)) place (m + 1)) ⌝ }
+{
+    let z = place + 2 * (m + 1);
+    let mut ys = [0i64; 32];
+    let mut zs = [0i64; 32];
+    columns::add_rows(&mut ys, &mut zs, rows, 10, n, certificate, place, z, m);
+    take_row(
+        &mut ys,
+        n,
+        endian::u16_at(certificate, place + 2 * m),
+        certificate,
+        s,
+    );
+    take_row(
+        &mut zs,
+        n,
+        endian::u16_at(certificate, z + 2 * m),
+        certificate,
+        s,
+    );
+    let ylift = columns::lift_of(certificate, place, m);
+    let zlift = columns::lift_of(certificate, z, m);
+    all_columns(&ys, &zs, n, ylift.sum, zlift.sum)
+}
+
 // The ranking of kind 4: the four conditions over the loop with the added row.
 fn lasso_ranking(
     rows: &[u8],
@@ -303,17 +358,13 @@ fn lasso_ranking(
         × (place + 4 * (m + 1) ≤ length (now certificate)) × (s + 2 * n + 4 ≤ length (now certificate)) ⌝ }
     ensures { λ r. ⌜ RankedBy r (longer-held (now (rows .entry)) n m (now (certificate .entry)) s) (ranking-held (now (certificate .entry)) place (m + 1)) ⌝ }
 {
-    let mut rank = [0i64; 16];
-    for j in 0..n {
-        let entry = lasso_column(rows, n, m, j, certificate, place, s);
-        if !entry.holds {
-            return fails();
-        }
-        let value = entry.value;
-        rank[j] = value;
+    let found = longer_columns(rows, n, m, certificate, place, s);
+    if !found.holds {
+        return fails();
     }
     let yb = lasso_right(rows, n, m, certificate, place, s);
     let zb = lasso_right(rows, n, m, certificate, place + 2 * (m + 1), s);
+    let rank = found.rank;
     shown(yb, zb, rank)
 }
 

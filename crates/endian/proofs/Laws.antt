@@ -2,12 +2,12 @@
 -- stored numbers to whole numbers and back. Proofs about records cite these, and none of them looks into a byte or a bit.
 -- The places and lists are explicit, for they stand under functions that compute. Assumes nothing.
 use Prim.Native.Nat.{ℕ, zero, suc, _+_, _*_, _-_, _/_, _%_, _^_, _≤_, _<_}
-use mathlib.Core.Path.{_≡_, refl, ap, _∙_}
+use mathlib.Core.Path.{_≡_, refl, sym, ap, _∙_}
 use mathlib.Core.List.{List, [], _∷_, _++_}
-use native.Mathlib.Nat.{add-zero, zero-add, suc-add, pow-succ', mod-eq-of-lt, add-mod-right}
+use native.Mathlib.Nat.{add-zero, zero-add, suc-add, pow-succ', mod-eq-of-lt, mod-lt, add-mod-right}
 use native.Mathlib.Decide.{decLt}
 use native.Mathlib.Omega.{arith}
-use lib.IntN.{ℤ, pos, negsuc, natAbs, _+ℤ_, _-ℤ_}
+use lib.IntN.{ℤ, pos, negsuc, natAbs, _+ℤ_, _-ℤ_, -ℤ-+ℤ-cancel}
 use lib.Signed.{mag, natAbs-le}
 use lib.ListN.{length, getD, take, drop, length-drop}
 use lib.Seq.{take-nil, take-append-le, drop-append-le, drop-append-add, getD-drop, drop-drop}
@@ -194,6 +194,14 @@ pub signed-read : (half x y : ℕ) (z : ℤ) → x < 2 * half → x ≡ y → z 
 signed-read half x y z small read moved =
     let meant : z ≡ signed half x = moved ∙ signed-moved half x small in
     (meant ∙ ap (signed half) read, rw meant (signed-size half x small))
+
+-- and before half is taken off, that number lifted by half
+pub lifted-read : (half x y : ℕ) → x < 2 * half → x ≡ y
+    → let z = pos ((x + half) % (2 * half)) in (z ≡ signed half y +ℤ pos half) × (natAbs z ≤ 2 * half - 1) × (natAbs (signed half y) ≤ half)
+lifted-read half x y small read =
+    let moved : pos ((x + half) % (2 * half)) -ℤ pos half ≡ signed half y = signed-moved half x small ∙ ap (signed half) read in
+    let below : (x + half) % (2 * half) < 2 * half = mod-lt (x + half) (omega arith) in
+    (sym (-ℤ-+ℤ-cancel (pos ((x + half) % (2 * half))) (pos half)) ∙ ap (λ z. z +ℤ pos half) moved, omega (arith, below), rw (← read) (signed-size half x small))
 
 -- z moved up by 2 * half is a natural, whose remainder is the stored number
 pub record Moved (half : ℕ) (z : ℤ) : Type 0 where

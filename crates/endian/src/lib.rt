@@ -6,7 +6,7 @@
 ghost use Prim.Native.Nat.{_+_, _*_, _%_, _≤_, _<_};
 ghost use mathlib.Core.Path.{_≡_};
 ghost use mathlib.Core.List.{_++_};
-ghost use lib.IntN.{pos, natAbs, _-ℤ_};
+ghost use lib.IntN.{pos, natAbs, _+ℤ_, _-ℤ_};
 ghost use lib.ListN.{length, take, drop};
 ghost use lib.Signed.{mag};
 ghost use Rattle.endian.specs.Numbers.{littleAt, digits, signed, unsigned};
@@ -56,6 +56,15 @@ pub fn i16_at(bytes: &[u8], place: usize) -> i64
     ensures { λ r. ⌜ (r ≡ signed 32768 (littleAt 2 (now (bytes .entry)) place)) × (natAbs r ≤ 32768) ⌝ }
 {
     less((u16_at(bytes, place) + 32768) % 65536, 32768)
+}
+
+// The i16 at a place, lifted by 32,768: never below 0, so that a product with it needs no sign.
+pub fn lifted_at(bytes: &[u8], place: usize) -> i64
+    requires { ⌜ place + 2 ≤ length (now bytes) ⌝ }
+    ensures { λ r. ⌜ (r ≡ signed 32768 (littleAt 2 (now (bytes .entry)) place) +ℤ pos 32768) × (natAbs r ≤ 65535)
+        × (natAbs (signed 32768 (littleAt 2 (now (bytes .entry)) place)) ≤ 32768) ⌝ }
+{
+    ((u16_at(bytes, place) + 32768) % 65536) as i64
 }
 
 // The i32 at a place.

@@ -1,39 +1,68 @@
--- `conditions::ranked_column` meets its contract: the totals of the column are the sums of the theory. Assumes nothing.
-use Prim.Native.Nat.{_+_, _*_}
+-- `conditions::ranked_column` meets its contract: each total is the lifted one less the lift. Assumes nothing.
+use Prim.Native.Nat.{_+_}
 use native.Mathlib.Omega.{arith}
-use Rattle.conditions.proofs.Totals.{now-grows, next-grows, passed-grows, entry-of}
+use mir.Facts.{toZ-ofZ}
+use Rattle.conditions.proofs.Totals.{passed-grows, entry-by}
 use borrow.Author.Needs.{needs}
 use Rattle.conditions.proofs.ranked_column.Statement.{statement}
 use Rattle.conditions.proofs.ranked_column.Tie as tie
 
-mul-columns-of : tie.Need-mul-columns-of
-mul-columns-of c = search needs
+unlifted-requires : tie.Need-unlifted-requires
+unlifted-requires c κs = (omega arith, c .pre .4 (c .args .j) (omega arith), rw (toZ-ofZ (c .fits .ylift)) (c .pre .6))
 
-add-columns-of : tie.Need-add-columns-of
-add-columns-of c = search needs
+add-unlifted : tie.Need-add-unlifted
+add-unlifted c = search needs
 
-columns-of-requires : tie.Need-columns-of-requires
-columns-of-requires c κs = search needs
+unlifted-requires-2 : tie.Need-unlifted-requires-2
+unlifted-requires-2 c κs =
+    let s = c .before in
+    (omega arith, s .pre .4 (s .args .n + s .args .j) (omega arith), rw (toZ-ofZ (s .fits .ylift)) (s .pre .6))
+
+unlifted-requires-3 : tie.Need-unlifted-requires-3
+unlifted-requires-3 c κs =
+    let s = c .before .before in
+    (omega arith, s .pre .5 (s .args .j) (omega arith), rw (toZ-ofZ (s .fits .zlift)) (s .pre .7))
+
+add-unlifted-2 : tie.Need-add-unlifted-2
+add-unlifted-2 c = search needs
+
+unlifted-requires-4 : tie.Need-unlifted-requires-4
+unlifted-requires-4 c κs =
+    let s = c .before .before .before in
+    (omega arith, s .pre .5 (s .args .n + s .args .j) (omega arith), rw (toZ-ofZ (s .fits .zlift)) (s .pre .7))
 
 column-holds-requires : tie.Need-column-holds-requires
 column-holds-requires c κs =
-    let called = c .before .before .before .before .before .before .before .before .before .before in
-    let a = called .before .before .before .args in
-    let z = called .columns-of .ensures .1 in
-    let now = called .columns-of .result .z .now .sum in
-    let next = called .columns-of .result .z .next .sum in (
-      passed-grows now (now-grows (a .certificate .now) (a .place + 2 * a .m) (a .rows .now) 10 (a .n) (a .j) (a .m) now next (omega arith) z),
-      passed-grows next (next-grows (a .certificate .now) (a .place + 2 * a .m) (a .rows .now) 10 (a .n) (a .j) (a .m) now next (omega arith) z),
-    )
+    let za = c .before .unlifted3 in
+    let za2 = c .unlifted4 in
+    (passed-grows (za .result) (omega (arith, za .ensures .1)), passed-grows (za2 .result) (omega (arith, za2 .ensures .1)))
 
 returns : tie.Need-returns
 returns c =
-    let called = c .before .before .before .before .before .before .before .before .before .before .before .before in
-    let a = called .before .before .before .args in
-    entry-of (a .rows .now) (a .certificate .now) (a .n) (a .m) (a .place) (a .j) (c .before .column-holds .result) _ _ _ _ (omega arith) (omega arith)
-    (called .columns-of .ensures .0) (called .columns-of .ensures .1) (c .before .column-holds .ensures)
+    let s = c .before .before .before .before .before in
+    let ya = c .before .before .before .before .unlifted in
+    let ya2 = c .before .before .before .unlifted2 in
+    let za = c .before .before .unlifted3 in
+    let za2 = c .before .unlifted4 in
+    rw (
+      ← rw (toZ-ofZ (s .fits .ylift)) at (ya .ensures .0),
+      ← rw (toZ-ofZ (s .fits .ylift)) at (ya2 .ensures .0),
+      ← rw (toZ-ofZ (s .fits .zlift)) at (za .ensures .0),
+      ← rw (toZ-ofZ (s .fits .zlift)) at (za2 .ensures .0),
+    )
+    (entry-by (c .column-holds .result) (ya .result) (ya2 .result) (za .result) (za2 .result)
+    (omega (arith, ya .ensures .1)) (omega (arith, ya2 .ensures .1)) (omega (arith, za .ensures .1)) (omega (arith, za2 .ensures .1))
+    (c .column-holds .ensures))
 
 pub ranked-column-spec : {M : Type 1} → statement M
 ranked-column-spec =
     tie.close
-    (tie.spec mul-columns-of add-columns-of columns-of-requires column-holds-requires returns)
+    (tie.spec
+    unlifted-requires
+    add-unlifted
+    unlifted-requires-2
+    unlifted-requires-3
+    add-unlifted-2
+    unlifted-requires-4
+    column-holds-requires
+    returns)
