@@ -2,10 +2,11 @@
 use mathlib.Core.Path.{_≡_, refl, sym, ap, _∙_}
 use Prim.Native.Nat.{ℕ}
 use mathlib.Core.Bool.{true, false}
-use mathlib.Core.List.{List}
+use mathlib.Core.List.{List, _++_}
 use native.Mathlib.Omega.{arith}
 use lib.IntN.{ℤ, pos, _+ℤ_}
-use lib.ListN.{length, take}
+use lib.ListN.{length, take, drop}
+use lib.Seq.{take-append-seam}
 use lib.Signed.{leZ, _<ℤ_}
 use Rattle.whole.specs.Sums.{dot, sum, Within}
 use Rattle.whole.proofs.Compare.{true-le}
@@ -14,7 +15,8 @@ use Rattle.record.specs.Layouts.{Kind, ranking, lasso, is-loop, is-lasso}
 use Rattle.record.specs.Readers.{counts-read}
 use Rattle.refusal.specs.Tests.{refused, first}
 use Rattle.refusal.proofs.TestLaws.{either, failed}
-use Rattle.theory.specs.Loops.{b, Loop}
+use Rattle.whole.proofs.Tables.{length-tabulate}
+use Rattle.theory.specs.Loops.{A′, b, Loop}
 use Rattle.theory.specs.Lassos as Lassos
 use Rattle.theory.specs.Rankings as Rankings
 use Rattle.conditions.specs.Decided.{RankedBy, LassoBy}
@@ -39,6 +41,13 @@ use Rattle.bound.proofs.Ways.{refused-so, at-conditions, at-invariant}
 falls : (loop : Loop) (c : Rankings.Ranking) → Rankings.RankingHolds loop c → pos 0 <ℤ Rankings.fall loop c
 unfolding Rankings.fall
 falls loop c h = let z = sum (c .Z) b (loop .rows) in solve-lt (v (pos 0)) (neg (v z)) (omega (arith, lt-fact (v z) (v (pos 0)) (h .fourth)))
+
+-- the rank in the front of a list
+front : (loop : Loop) (c : Rankings.Ranking) (before entries : List ℤ) → entries ≡ Rankings.rank loop c ++ drop (loop .variables) before → take (loop .variables) entries ≡ Rankings.rank loop c
+unfolding Rankings.rank
+front loop c before entries put =
+    let long = length-tabulate (loop .variables) (λ j. sum (c .Z) (A′ j) (loop .rows)) in
+    rw put (rw long at (take-append-seam (Rankings.rank loop c) (drop (loop .variables) before)))
 
 -- an invariant that fails
 outside : (b : Bounding) → kind-of (b .records) ≡ lasso → (Lassos.Invariant (lasso-in (b .records .certificate-is)) (b .state) → ⊥) → first invariant b ≡ refused 11 0
@@ -76,9 +85,9 @@ module _ (rows : List ℕ) (n m : ℕ) (l : LoopSound rows n m) (certificate : L
   loop-told = loop-of rows n m l
 
   -- what sums that fit give the code
-  ready : (loop : Loop) (c : Rankings.Ranking) (r : Ranked) → Ranking-sums-fit loop c → Rankings.RankingHolds loop c
-      → length (r .rank) ≡ 16 → take n (r .rank) ≡ Rankings.rank loop c → r .start ≡ Rankings.start loop c → r .fall ≡ Rankings.fall loop c → Ready (r .rank) n (r .start) (r .fall) state
-  ready loop c r sizes holds long rank-is start-is fall-is =
+  ready : (loop : Loop) (c : Rankings.Ranking) (r : Ranked) (entries : List ℤ) → Ranking-sums-fit loop c → Rankings.RankingHolds loop c
+      → length entries ≡ 16 → take n entries ≡ Rankings.rank loop c → r .start ≡ Rankings.start loop c → r .fall ≡ Rankings.fall loop c → Ready entries n (r .start) (r .fall) state
+  ready loop c r entries sizes holds long rank-is start-is fall-is =
       record {
         long = long;
         entries-small = rw rank-is (λ i. omega (arith, sizes .rank-within i));
@@ -89,7 +98,8 @@ module _ (rows : List ℕ) (n m : ℕ) (l : LoopSound rows n m) (certificate : L
 
   -- ---- kind 2
 
-  module _ (c : CertificateSound has-rank rows certificate ranking) (r : Ranked) (by : RankedBy r (loop-held rows n m) (ranking-held certificate 6 m)) where
+  module _ (c : CertificateSound has-rank rows certificate ranking) (r : Ranked) (before entries : List ℤ)
+      (by : RankedBy r (loop-held rows n m) (ranking-held certificate 6 m) before entries) (long : length entries ≡ 16) where
     ranking-told : ranking-in (call .records .certificate-is) ≡ ranking-held certificate 6 m
     unfolding bound-of certificate-record is-loop
     ranking-told =
@@ -104,16 +114,16 @@ module _ (rows : List ℕ) (n m : ℕ) (l : LoopSound rows n m) (certificate : L
         (at-conditions call (s .loop-sound) (s .certificate-sound) (state-fits call .1 state-in)
         (λ h. by .decided .no-fails e (rw (loop-told, ranking-told) at (ranking-conditions (call .records) told .0 h))))
 
-    pub ranking-ready : r .holds ≡ true → Ready (r .rank) n (r .start) (r .fall) state
+    pub ranking-ready : r .holds ≡ true → Ready entries n (r .start) (r .fall) state
     unfolding bound-of loop-record loop-held is-loop
     ranking-ready e =
         let counts = counts-are rows n m l has-rank certificate ranking c refl in
         let s = both ranking c in
         let sizes = ranking-sums-fit (call .records .loop-is) (call .records .certificate-is) (says _ (s .loop-sound)) (says _ (s .certificate-sound)) (loop-kind rows n m l) (c .kind-is) (counts .1 ∙ l .m-is) in
-        ready _ _ r (rw (loop-told, ranking-told) at sizes) (by .decided .yes-holds e) (by .long e) (by .rank-is e) (by .start-is e) (by .fall-is e)
+        ready _ _ r entries (rw (loop-told, ranking-told) at sizes) (by .decided .yes-holds e) long (front _ _ before entries (by .put e)) (by .start-is e) (by .fall-is e)
 
     pub ranking-bounded : r .holds ≡ true
-        → _≡_ {A = Bounded} (record { verdict = shows (Ranking (r .start) (r .fall)); bound = Rankings.bound (take n (r .rank)) (r .start) (r .fall) state }) (bounds call)
+        → _≡_ {A = Bounded} (record { verdict = shows (Ranking (r .start) (r .fall)); bound = Rankings.bound (take n entries) (r .start) (r .fall) state }) (bounds call)
     unfolding loop-held bound-of
     ranking-bounded e =
         let told = kind-told ranking c in
@@ -121,13 +131,13 @@ module _ (rows : List ℕ) (n m : ℕ) (l : LoopSound rows n m) (certificate : L
         bounded-exactly-when-ranking call told .1
         (record { both-sound = both ranking c; state-in = state-in; holds = rw (loop-told, ranking-told) (by .decided .yes-holds e) })
         in
-        rw (by .start-is e, by .fall-is e, by .rank-is e) (sym (rw (loop-told, ranking-told) at (ranking-bound-is call told zero-told)))
+        rw (by .start-is e, by .fall-is e, front _ _ before entries (by .put e)) (sym (rw (loop-told, ranking-told) at (ranking-bound-is call told zero-told)))
 
   -- ---- kind 4
 
   module _ (ms : ℕ) (c : CertificateSound has-rank rows certificate lasso)
       (ms-is : ms ≡ counts-read (certificate-record has-rank (loop-record rows) certificate) .ms) (r : Ranked)
-      (by : LassoBy r (loop-held rows n m) (lasso-held certificate n m ms)) where
+      (before entries : List ℤ) (by : LassoBy r (loop-held rows n m) (lasso-held certificate n m ms) before entries) (long : length entries ≡ 16) where
     lasso-told : lasso-in (call .records .certificate-is) ≡ lasso-held certificate n m ms
     unfolding bound-of certificate-record is-loop
     lasso-told =
@@ -152,16 +162,16 @@ module _ (rows : List ℕ) (n m : ℕ) (l : LoopSound rows n m) (certificate : L
         (lasso-conditions (call .records) told .1 (rw (loop-told, lasso-told) (by .decided .yes-holds e)))
         (outside call told (λ h. fails (rw (lasso-told, state-is) at h))))
 
-    pub lasso-ready : r .holds ≡ true → Ready (r .rank) n (r .start) (r .fall) state
+    pub lasso-ready : r .holds ≡ true → Ready entries n (r .start) (r .fall) state
     unfolding bound-of loop-record loop-held is-loop
     lasso-ready e =
         let counts = counts-are rows n m l has-rank certificate lasso c refl in
         let s = both lasso c in
         let sizes = lasso-sums-fit-in (call .records .loop-is) (call .records .certificate-is) (says _ (s .loop-sound)) (says _ (s .certificate-sound)) (loop-kind rows n m l) (c .kind-is) (counts .0 ∙ l .n-is) (counts .1 ∙ l .m-is) .1 in
-        ready _ _ r (rw (loop-told, lasso-told) at sizes) (by .decided .yes-holds e .ranked) (by .long e) (by .rank-is e) (by .start-is e) (by .fall-is e)
+        ready _ _ r entries (rw (loop-told, lasso-told) at sizes) (by .decided .yes-holds e .ranked) long (front _ _ before entries (by .put e)) (by .start-is e) (by .fall-is e)
 
     pub lasso-bounded : r .holds ≡ true → Lassos.Invariant (lasso-held certificate n m ms) state
-        → _≡_ {A = Bounded} (record { verdict = shows (Lasso (r .start) (r .fall)); bound = Rankings.bound (take n (r .rank)) (r .start) (r .fall) state }) (bounds call)
+        → _≡_ {A = Bounded} (record { verdict = shows (Lasso (r .start) (r .fall)); bound = Rankings.bound (take n entries) (r .start) (r .fall) state }) (bounds call)
     unfolding loop-held bound-of
     lasso-bounded e starts =
         let told = kind-told lasso c in
@@ -169,4 +179,4 @@ module _ (rows : List ℕ) (n m : ℕ) (l : LoopSound rows n m) (certificate : L
         bounded-exactly-when-lasso call told .1
         (record { both-sound = both lasso c; state-in = state-in; holds = rw (loop-told, lasso-told) (by .decided .yes-holds e); starts = rw lasso-told starts })
         in
-        rw (by .start-is e, by .fall-is e, by .rank-is e) (sym (rw (loop-told, lasso-told) at (lasso-bound-is call told zero-told)))
+        rw (by .start-is e, by .fall-is e, front _ _ before entries (by .put e)) (sym (rw (loop-told, lasso-told) at (lasso-bound-is call told zero-told)))

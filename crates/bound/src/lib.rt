@@ -60,9 +60,9 @@ fn steps(value: i64, start: i64, fall: i64) -> usize
 }
 
 // The bound at a state by a rank, its start and its fall.
-fn bound_at(entries: [i64; 16], n: usize, start: i64, fall: i64, state: &[i64]) -> usize
-    requires { ⌜ Ready entries n start fall (now state) × (n ≤ 16) × (length (now state) ≡ n) ⌝ }
-    ensures { λ r. ⌜ r ≡ Rankings.bound (take n entries) start fall (now (state .entry)) ⌝ }
+fn bound_at(entries: &[i64], n: usize, start: i64, fall: i64, state: &[i64]) -> usize
+    requires { ⌜ Ready (now entries) n start fall (now state) × (n ≤ 16) × (length (now state) ≡ n) ⌝ }
+    ensures { λ r. ⌜ r ≡ Rankings.bound (take n (now (entries .entry))) start fall (now (state .entry)) ⌝ }
 {
     let value = columns::rank_at(&entries[..n], state);
     steps(value.sum, start, fall)
@@ -73,11 +73,11 @@ fn bound_ranking(rows: &[u8], n: usize, m: usize, certificate: &[u8], state: &[i
     requires { ⌜ LoopSound (now rows) n m × CertificateSound has-rank (now rows) (now certificate) ranking × StateFits (now state) n ⌝ }
     ensures { λ r. ⌜ r ≡ bounds (bound-of (now (rows .entry)) (now (certificate .entry)) (now (state .entry))) ⌝ }
 {
-    let shown = conditions::ranking(rows, n, m, certificate);
+    let mut entries = [0i64; 16];
+    let shown = conditions::ranking(rows, n, m, certificate, &mut entries);
     if !shown.holds {
         return refused(2, 8, 0);
     }
-    let entries = shown.rank;
     Bounded {
         verdict: Verdict {
             number: 0,
@@ -88,7 +88,7 @@ fn bound_ranking(rows: &[u8], n: usize, m: usize, certificate: &[u8], state: &[i
                 fall: shown.fall,
             },
         },
-        bound: bound_at(entries, n, shown.start, shown.fall, state),
+        bound: bound_at(&entries, n, shown.start, shown.fall, state),
     }
 }
 
@@ -116,14 +116,14 @@ fn bound_lasso(
         × (ms ≡ counts-read (certificate-record has-rank (loop-record (now rows)) (now certificate)) .ms) × StateFits (now state) n ⌝ }
     ensures { λ r. ⌜ r ≡ bounds (bound-of (now (rows .entry)) (now (certificate .entry)) (now (state .entry))) ⌝ }
 {
-    let shown = conditions::lasso(rows, n, m, certificate, ms);
+    let mut entries = [0i64; 16];
+    let shown = conditions::lasso(rows, n, m, certificate, ms, &mut entries);
     if !shown.holds {
         return refused(2, 8, 0);
     }
     if !meets_invariant(certificate, n, m, ms, state) {
         return refused(2, 11, 0);
     }
-    let entries = shown.rank;
     Bounded {
         verdict: Verdict {
             number: 0,
@@ -134,7 +134,7 @@ fn bound_lasso(
                 fall: shown.fall,
             },
         },
-        bound: bound_at(entries, n, shown.start, shown.fall, state),
+        bound: bound_at(&entries, n, shown.start, shown.fall, state),
     }
 }
 

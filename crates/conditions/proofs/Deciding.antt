@@ -1,6 +1,8 @@
 -- From the tests of the code to what they decide: signed numbers are compared by their bits, and an answer by early returns decides a conjunction.
-use mathlib.Core.Path.{_≡_, sym, ap, _∙_}
+use Prim.Native.Nat.{ℕ, _+_, _<_}
+use mathlib.Core.Path.{_≡_, sym, ap, subst, _∙_}
 use mathlib.Core.Bool.{Bool, true, false, false≢true}
+use native.Mathlib.Decide.{decLt}
 use native.Mathlib.Omega.{arith}
 use lib.Dec.{eqb}
 use lib.IntN.{ℤ, pos, negℤ, _+ℤ_, _-ℤ_, +ℤ-idl}
@@ -14,7 +16,6 @@ use Rattle.whole.proofs.Size.{abs-add, abs-neg, fits-abs}
 use Rattle.columns.specs.Running.{CanGrow}
 use Rattle.conditions.specs.Decided.{Decides, Shows}
 use Rattle.conditions.specs.declared.Ranked.{Ranked}
-use mathlib.Core.List.{List}
 
 -- ---- numbers and their bits
 
@@ -44,6 +45,14 @@ answer-same {a} {b} f g =
 pub answer-by : {answer : Bool} {P Q : Type 0} → (P → Q) → (Q → P) → Decides answer P → Decides answer Q
 answer-by f g d = record { yes-holds = λ e. f (d .yes-holds e); no-fails = λ e q. d .no-fails e (g q) }
 
+-- what holds below j and at j holds below j + 1
+pub one-more : {P : ℕ → Type 0} (j : ℕ) → ((k : ℕ) → k < j → P k) → P j → (k : ℕ) → k < j + 1 → P k
+one-more {P} j before here k below =
+    elim (decLt k j) [
+      | yes earlier ↦ before k earlier
+      | no not-earlier ↦ let same : k ≡ j = omega arith in subst P (sym same) here
+    ]
+
 -- ---- minus
 
 pub minus-fits : (z : ℤ) → CanGrow z → SFits w64 (pos 0 -ℤ z)
@@ -51,13 +60,12 @@ minus-fits z h = rw (+ℤ-idl (negℤ z)) (fits-abs (omega (arith, abs-neg z)))
 
 -- ---- a ranking's fourth condition
 
-pub shows-nothing : (yb zb : ℤ) (rank : List ℤ) (r : Ranked) → r .holds ≡ false → pos 0 ≤ℤ zb → Shows yb zb rank r
-shows-nothing yb zb rank r e h =
+pub shows-nothing : (yb zb : ℤ) (r : Ranked) → r .holds ≡ false → pos 0 ≤ℤ zb → Shows yb zb r
+shows-nothing yb zb r e h =
     record {
       fourth = rw e (answer-no (λ below. clashℤ below h));
       start-is = λ t. absurd (false≢true (sym e ∙ t));
       fall-is = λ t. absurd (false≢true (sym e ∙ t));
-      rank-is = λ t. absurd (false≢true (sym e ∙ t));
     }
 
 -- ---- the test of order

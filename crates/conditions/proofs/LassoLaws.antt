@@ -1,5 +1,5 @@
 -- Lassos: where their parts stand within the bytes, and the conditions as start, kept and ranking.
-use mathlib.Core.Path.{_≡_, sym, _∙_}
+use mathlib.Core.Path.{_≡_, refl, sym, _∙_}
 use Prim.Native.Nat.{ℕ, _+_, _*_, _≤_}
 use mathlib.Core.Bool.{false, false≢true}
 use mathlib.Core.List.{List}
@@ -61,23 +61,23 @@ module _ (loop : Loop) (c : Lasso) where
       }
 
   -- a part that fails
-  pub lasso-fails : (r : Ranked) → (LassoHolds loop c → ⊥) → r .holds ≡ false → LassoBy r loop c
-  lasso-fails r fails e =
+  pub lasso-fails : (r : Ranked) (lent : List ℤ) → (LassoHolds loop c → ⊥) → r .holds ≡ false → LassoBy r loop c lent lent
+  lasso-fails r lent fails e =
       record {
         decided = rw e (answer-no fails);
         start-is = λ t. absurd (false≢true (sym e ∙ t));
         fall-is = λ t. absurd (false≢true (sym e ∙ t));
-        rank-is = λ t. absurd (false≢true (sym e ∙ t));
-        long = λ t. absurd (false≢true (sym e ∙ t));
+        put = λ t. absurd (false≢true (sym e ∙ t));
+        stays = λ t. refl;
       }
 
   -- start and kept hold: what is left is the ranking
-  pub lasso-ranked : (r : Ranked) → Starts (loop .variables) c → Keeps loop c → RankedBy r (longer loop c) (c .ranking) → LassoBy r loop c
-  lasso-ranked r s k ranked =
+  pub lasso-ranked : (r : Ranked) (before after : List ℤ) → Starts (loop .variables) c → Keeps loop c → RankedBy r (longer loop c) (c .ranking) before after → LassoBy r loop c before after
+  lasso-ranked r before after s k ranked =
       record {
         decided = answer-by (by-parts s k) (λ h. h .ranked) (ranked .decided);
         start-is = ranked .start-is;
         fall-is = ranked .fall-is;
-        rank-is = ranked .rank-is;
-        long = ranked .long;
+        put = ranked .put;
+        stays = ranked .stays;
       }

@@ -1,24 +1,22 @@
--- Rankings column by column: what a loop over the columns knows when it has come to column j, and what follows at its end. The laws speak of any loop
--- and ranking, so they serve a ranking of kind 2 and the one within a lasso.
-use mathlib.Core.Path.{_≡_, sym, _∙_}
-use Prim.Native.Nat.{ℕ, _+_, _<_, _≤_}
-use mathlib.Core.Bool.{true, false, false≢true}
-use mathlib.Core.List.{List}
-use native.Mathlib.Decide.{decLt}
-use native.Mathlib.Omega.{arith}
+-- Rankings column by column: how all columns decide the first three conditions, how the rank is put, and what follows with the fourth. The laws speak of any
+-- loop and ranking, so they serve a ranking of kind 2 and the one within a lasso.
+use mathlib.Core.Path.{_≡_, refl, sym, ap, _∙_}
+use Prim.Native.Nat.{ℕ, suc, _+_, _<_}
+use mathlib.Core.Bool.{Bool, true, false, false≢true}
+use mathlib.Core.List.{List, _++_}
+use native.Mathlib.Numerals.{add-one}
 use lib.IntN.{ℤ, pos, _-ℤ_, +ℤ-invr}
-use lib.ListN.{length, getD, set, take, length-set}
-use lib.Seq.{getD-set-same, getD-set-other, getD-take, ext-getD, length-take-le}
+use lib.ListN.{length, getD, set, drop}
+use lib.Seq.{drop-cons, append-snoc, set-at}
 use lib.Signed.{_<ℤ_}
 use Rattle.whole.specs.Sums.{sum, tabulate}
 use Rattle.whole.proofs.SumLaws.{sum-add, sum-less-weights}
-use Rattle.whole.proofs.Tables.{length-tabulate, tabulate-at}
+use Rattle.whole.proofs.Tables.{length-tabulate, tabulate-more, tabulate-same}
 use Rattle.theory.specs.Loops.{A, A′, b, Loop}
 use Rattle.theory.specs.Rankings.{Ranking, RankingHolds, rank, start, fall}
 use Rattle.theory.proofs.RankingTheorems.{no-difference}
-use Rattle.conditions.specs.Decided.{ColumnAt, ColumnIn, Totalled, RanksBy, ColumnsBy, Shows, RankedBy}
+use Rattle.conditions.specs.Decided.{ColumnAt, Totalled, RanksBy, ColumnsBy, Shows, RankedBy}
 use Rattle.conditions.specs.declared.Ranked.{Ranked}
-use Rattle.conditions.specs.declared.Ranks.{Ranks}
 use Rattle.conditions.proofs.Deciding.{answer-yes, answer-no, answer-by}
 
 module _ (loop : Loop) (c : Ranking) where
@@ -43,84 +41,58 @@ module _ (loop : Loop) (c : Ranking) where
         third = sym (sum-add (c .Z) (A j) (A′ j) (loop .rows)) ∙ h .third j k;
       }
 
--- ---- a loop over the columns of lifted totals
+-- ---- the rank, put into the front of a list one entry after another
 
-module _ (ys : List ℤ) (ylift : ℤ) (zs : List ℤ) (zlift : ℤ) (n : ℕ) where
-  -- before column j: the columns so far hold, and their entries of the rank are stored
-  pub record SoFar (j : ℕ) (stored : List ℤ) : Type 0 where
-    pub long : length stored ≡ 16
-    pub hold : (k : ℕ) → k < j → ColumnIn ys ylift zs zlift n k
-    pub entries : (k : ℕ) → k < j → getD stored k (pos 0) ≡ getD zs (n + k) (pos 0) -ℤ zlift
-
-  pub so-far-none : (stored : List ℤ) → length stored ≡ 16 → SoFar 0 stored
-  so-far-none stored long = record { long = long; hold = λ k h. absurd (omega arith); entries = λ k h. absurd (omega arith) }
-
-  pub so-far-more : (j : ℕ) (stored : List ℤ) (entry : ℤ) → SoFar j stored → j < 16 → ColumnIn ys ylift zs zlift n j → entry ≡ getD zs (n + j) (pos 0) -ℤ zlift
-      → SoFar (j + 1) (set stored j entry)
-  so-far-more j stored entry s below holds is =
-      record {
-        long = simp length-set (s .long);
-        hold = λ k h. at-or-before k (λ e. rw e holds) (λ h′. s .hold k h′) h;
-        entries =
-            λ k h.
-            at-or-before k
-            (λ e. rw e (getD-set-same stored j entry (pos 0) (omega (arith, s .long)) ∙ is))
-            (λ h′. getD-set-other stored j k entry (pos 0) (λ e. omega arith) ∙ s .entries k h′) h;
-      }
-    where
-      at-or-before : {X : Type 0} (k : ℕ) → (k ≡ j → X) → (k < j → X) → k < j + 1 → X
-      at-or-before k f g h = elim (decLt k j) [ yes h′ ↦ g h′ | no h′ ↦ f (omega arith) ]
-
-  -- a column that fails, and all of them
-  pub column-fails : (j : ℕ) (stored : List ℤ) → j < n → (ColumnIn ys ylift zs zlift n j → ⊥) → RanksBy (record { holds = false; rank = stored }) ys ylift zs zlift n
-  column-fails j stored below fails =
-      record { decided = answer-no (λ h. fails (h j below)); entries = λ t. absurd (false≢true t); long = λ t. absurd (false≢true t) }
-
-  pub columns-hold : (stored : List ℤ) → SoFar n stored → RanksBy (record { holds = true; rank = stored }) ys ylift zs zlift n
-  columns-hold stored s = record { decided = answer-yes (s .hold); entries = λ t. s .entries; long = λ t. s .long }
+pub put-more : (entry : ℕ → ℤ) (lent : List ℤ) (j : ℕ) → j < length lent
+    → set (tabulate j entry ++ drop j lent) j (entry j) ≡ tabulate (j + 1) entry ++ drop (j + 1) lent
+put-more entry lent j there =
+    rw (add-one, drop-cons lent j (pos 0) there, tabulate-more j entry)
+    (set-at (tabulate j entry) (getD lent j (pos 0)) (drop (suc j) lent) (entry j) j (length-tabulate j entry) ∙ sym (append-snoc (tabulate j entry) (entry j) (drop (suc j) lent)))
 
 -- ---- the totals are those of a loop and a ranking
 
-pub columns-of : (loop : Loop) (c : Ranking) (ys : List ℤ) (ylift : ℤ) (zs : List ℤ) (zlift : ℤ) (found : Ranks)
-    → Totalled ys ylift zs zlift loop c → RanksBy found ys ylift zs zlift (loop .variables) → ColumnsBy found loop c
-columns-of loop c ys ylift zs zlift found same by =
+pub columns-of : (loop : Loop) (c : Ranking) (ys : List ℤ) (ylift : ℤ) (zs : List ℤ) (zlift : ℤ) (holds : Bool) (before after : List ℤ)
+    → Totalled ys ylift zs zlift loop c → RanksBy holds ys ylift zs zlift (loop .variables) before after → ColumnsBy holds loop c before after
+unfolding rank
+columns-of loop c ys ylift zs zlift holds before after same by =
     record {
       decided =
           answer-by (λ h j below. let t = same j below in rw (t .0, t .1, t .2, t .3) at (h j below))
           (λ h j below. let t = same j below in rw (t .0, t .1, t .2, t .3) (h j below)) (by .decided);
-      entries = λ holds j below. by .entries holds j below ∙ same j below .3;
-      long = by .long;
+      put = λ t. by .put t ∙ ap (λ entries. entries ++ drop (loop .variables) before) (tabulate-same (loop .variables) _ _ (λ j below. same j below .3));
+      stays = by .stays;
     }
 
--- ---- the first three conditions are decided
+-- ---- the first three conditions and the fourth
 
-module _ (loop : Loop) (c : Ranking) (found : Ranks) (by : ColumnsBy found loop c) (r : Ranked) where
-  pub ranked-fails : found .holds ≡ false → r .holds ≡ false → RankedBy r loop c
-  ranked-fails fails e =
+module _ (loop : Loop) (c : Ranking) (before : List ℤ) (told : Ranked) (shows : Shows (sum (c .Y) b (loop .rows)) (sum (c .Z) b (loop .rows)) told) where
+  pub fourth-fails : told .holds ≡ false → RankedBy told loop c before before
+  fourth-fails e =
+      record {
+        decided = rw e (answer-no (λ h. shows .fourth .no-fails e (h .fourth)));
+        start-is = λ t. absurd (false≢true (sym e ∙ t));
+        fall-is = λ t. absurd (false≢true (sym e ∙ t));
+        put = λ t. absurd (false≢true (sym e ∙ t));
+        stays = λ t. refl;
+      }
+
+  pub three-fail : (r : Ranked) (after : List ℤ) (holds : Bool) → ColumnsBy holds loop c before after → holds ≡ false → r .holds ≡ false → RankedBy r loop c before after
+  three-fail r after holds by fails e =
       record {
         decided = rw e (answer-no (λ h. by .decided .no-fails fails (column-of loop c h)));
         start-is = λ t. absurd (false≢true (sym e ∙ t));
         fall-is = λ t. absurd (false≢true (sym e ∙ t));
-        rank-is = λ t. absurd (false≢true (sym e ∙ t));
-        long = λ t. absurd (false≢true (sym e ∙ t));
+        put = λ t. absurd (false≢true (sym e ∙ t));
+        stays = λ t. by .stays fails;
       }
 
-  -- what is left is the fourth
-  pub ranked-holds : found .holds ≡ true → loop .variables ≤ 16 → Shows (sum (c .Y) b (loop .rows)) (sum (c .Z) b (loop .rows)) (found .rank) r → RankedBy r loop c
-  unfolding rank start fall
-  ranked-holds holds few shown =
+  pub all-hold : (after : List ℤ) (holds : Bool) → ColumnsBy holds loop c before after → holds ≡ true → told .holds ≡ true → RankedBy told loop c before after
+  unfolding start fall
+  all-hold after holds by three e =
       record {
-        decided = answer-by (by-columns loop c (by .decided .yes-holds holds)) (λ h. h .fourth) (shown .fourth);
-        start-is = shown .start-is;
-        fall-is = shown .fall-is;
-        rank-is = λ t. rw (shown .rank-is t) entries-are;
-        long = λ t. rw (shown .rank-is t) (by .long holds);
+        decided = rw e (answer-yes (by-columns loop c (by .decided .yes-holds three) (shows .fourth .yes-holds e)));
+        start-is = shows .start-is;
+        fall-is = shows .fall-is;
+        put = λ t. by .put three;
+        stays = λ t. absurd (false≢true (sym t ∙ e));
       }
-    where
-      entries-are : take (loop .variables) (found .rank) ≡ tabulate (loop .variables) (λ j. sum (c .Z) (A′ j) (loop .rows))
-      entries-are =
-          let long = length-take-le (loop .variables) (found .rank) (omega (arith, by .long holds)) in
-          ext-getD (pos 0) _ _ (long ∙ sym (length-tabulate (loop .variables) _))
-          (λ k h.
-          let below : k < loop .variables = omega (arith, long) in
-          getD-take (loop .variables) (found .rank) k (pos 0) below ∙ by .entries holds k below ∙ sym (tabulate-at (loop .variables) _ k (pos 0) below))

@@ -18,7 +18,7 @@ use Rattle.columns.specs.Running.{CanGrow, Modest, SumOf}
 use Rattle.columns.proofs.LiftLaws.{column-in}
 use Rattle.columns.proofs.ListLaws.{now-over-rows, next-over-rows, right-over-rows}
 use Rattle.theory.specs.Loops.{A, A′, b}
-use Rattle.conditions.specs.Decided.{Decides, ColumnHolds, EntryBy, Totalled}
+use Rattle.conditions.specs.Decided.{Decides, ColumnHolds, Totalled}
 use Rattle.conditions.specs.Held.{loop-held, ranking-held}
 
 -- ---- sizes
@@ -57,15 +57,11 @@ pub passed-grows : (s : ℤ) → CanGrow s → CanGrow (toZ w64 (ofZ w64 s))
 passed-grows s h = rw (toZ-ofZ (grown-fits h)) h
 
 -- a column whose totals, as they are passed on, are tested
-pub entry-by : (answer : Bool) (ya ya2 za za2 : ℤ) → CanGrow ya → CanGrow ya2 → CanGrow za → CanGrow za2
+pub column-decided : (answer : Bool) (ya ya2 za za2 : ℤ) → CanGrow ya → CanGrow ya2 → CanGrow za → CanGrow za2
     → Decides answer (ColumnHolds (toZ w64 (ofZ w64 ya)) (toZ w64 (ofZ w64 ya2)) (toZ w64 (ofZ w64 za)) (toZ w64 (ofZ w64 za2)))
-    → EntryBy (record { holds = answer; value = toZ w64 (ofZ w64 za2) }) ya ya2 za za2
-entry-by answer ya ya2 za za2 ya-grows ya2-grows za-grows za2-grows d =
-    record {
-      decided = rw (toZ-ofZ (grown-fits ya-grows), toZ-ofZ (grown-fits ya2-grows), toZ-ofZ (grown-fits za-grows), toZ-ofZ (grown-fits za2-grows)) at d;
-      value-is = toZ-ofZ (grown-fits za2-grows);
-      value-grows = passed-grows za2 za2-grows;
-    }
+    → Decides answer (ColumnHolds ya ya2 za za2)
+column-decided answer ya ya2 za za2 ya-grows ya2-grows za-grows za2-grows d =
+    rw (toZ-ofZ (grown-fits ya-grows), toZ-ofZ (grown-fits ya2-grows), toZ-ofZ (grown-fits za-grows), toZ-ofZ (grown-fits za2-grows)) at d
 
 -- the lifted totals of a ranking record's rows, less the lifts
 pub totalled : (rows certificate : List ℕ) (n m place : ℕ) (ys : List ℤ) (ylift : ℤ) (zs : List ℤ) (zlift : ℤ) → m ≤ 65

@@ -4,19 +4,16 @@ use mathlib.Core.Path.{_≡_}
 use mathlib.Core.Bool.{Bool, true, false}
 use lib.IntN.{ℤ, pos, natAbs, negℤ, _+ℤ_, _-ℤ_, _*ℤ_}
 use lib.Signed.{_≤ℤ_, _<ℤ_}
-use mathlib.Core.List.{List}
-use lib.ListN.{length, getD, take}
+use mathlib.Core.List.{List, _++_}
+use lib.ListN.{length, getD, drop}
 use Rattle.theory.specs.Loops.{A, A′, b, Loop, Meets}
 use Rattle.theory.specs.Exclusions.{Exclusion, Stays}
 use Rattle.theory.specs.Lassos.{Lasso, LassoHolds, longer}
 use Rattle.theory.specs.Rankings.{Ranking, RankingHolds, rank, start, fall}
 use Rattle.columns.specs.Places.{entryAt, mostEntry}
-use Rattle.columns.specs.Running.{CanGrow}
-use Rattle.conditions.specs.declared.Entry.{Entry}
 use Rattle.conditions.specs.declared.Ranked.{Ranked}
-use Rattle.conditions.specs.declared.Ranks.{Ranks}
 use Rattle.whole.specs.Rows.{Row}
-use Rattle.whole.specs.Sums.{sum, less}
+use Rattle.whole.specs.Sums.{sum, less, tabulate}
 
 -- a test's answer says whether P holds
 pub record Decides (answer : Bool) (P : Type 0) : Type 0 where
@@ -32,16 +29,14 @@ pub record ColumnHolds (y-now y-next z-now z-next : ℤ) : Type 0 where
 abbrev pub ColumnAt : Loop → Ranking → ℕ → Type 0
 ColumnAt loop c j = ColumnHolds (sum (c .Y) (A j) (loop .rows)) (sum (c .Y) (A′ j) (loop .rows)) (sum (c .Z) (A j) (loop .rows)) (sum (c .Z) (A′ j) (loop .rows))
 
--- whether a column of these totals meets them, and its entry of the rank
-pub record EntryBy (r : Entry) (y-now y-next z-now z-next : ℤ) : Type 0 where
-  pub decided : Decides (r .holds) (ColumnHolds y-now y-next z-now z-next)
-  pub value-is : r .value ≡ z-next
-  pub value-grows : CanGrow (r .value)
-
 -- column j of lists of lifted totals, n over A and then n over A', meets them
 abbrev pub ColumnIn : List ℤ → ℤ → List ℤ → ℤ → ℕ → ℕ → Type 0
 ColumnIn ys ylift zs zlift n j =
     ColumnHolds (getD ys j (pos 0) -ℤ ylift) (getD ys (n + j) (pos 0) -ℤ ylift) (getD zs j (pos 0) -ℤ zlift) (getD zs (n + j) (pos 0) -ℤ zlift)
+
+-- total j over A' in such a list
+abbrev pub nextIn : List ℤ → ℤ → ℕ → ℕ → ℤ
+nextIn sums lift n j = getD sums (n + j) (pos 0) -ℤ lift
 
 -- those totals are the sums of a loop and a ranking
 abbrev pub Totalled : List ℤ → ℤ → List ℤ → ℤ → Loop → Ranking → Type 0
@@ -50,17 +45,17 @@ Totalled ys ylift zs zlift loop c =
     → (getD ys j (pos 0) -ℤ ylift ≡ sum (c .Y) (A j) (loop .rows)) × (getD ys (loop .variables + j) (pos 0) -ℤ ylift ≡ sum (c .Y) (A′ j) (loop .rows))
     × (getD zs j (pos 0) -ℤ zlift ≡ sum (c .Z) (A j) (loop .rows)) × (getD zs (loop .variables + j) (pos 0) -ℤ zlift ≡ sum (c .Z) (A′ j) (loop .rows))
 
--- whether all columns do; and then the entries of the rank
-pub record RanksBy (r : Ranks) (ys : List ℤ) (ylift : ℤ) (zs : List ℤ) (zlift : ℤ) (n : ℕ) : Type 0 where
-  pub decided : Decides (r .holds) ((j : ℕ) → j < n → ColumnIn ys ylift zs zlift n j)
-  pub entries : r .holds ≡ true → (j : ℕ) → j < n → getD (r .rank) j (pos 0) ≡ getD zs (n + j) (pos 0) -ℤ zlift
-  pub long : r .holds ≡ true → length (r .rank) ≡ 16
+-- whether all columns of such lists meet them; and then the totals of Z over A' are put into the front of a list, which stays otherwise
+pub record RanksBy (holds : Bool) (ys : List ℤ) (ylift : ℤ) (zs : List ℤ) (zlift : ℤ) (n : ℕ) (before after : List ℤ) : Type 0 where
+  pub decided : Decides holds ((j : ℕ) → j < n → ColumnIn ys ylift zs zlift n j)
+  pub put : holds ≡ true → after ≡ tabulate n (nextIn zs zlift n) ++ drop n before
+  pub stays : holds ≡ false → after ≡ before
 
--- the same of a loop and a ranking
-pub record ColumnsBy (r : Ranks) (loop : Loop) (c : Ranking) : Type 0 where
-  pub decided : Decides (r .holds) ((j : ℕ) → j < loop .variables → ColumnAt loop c j)
-  pub entries : r .holds ≡ true → (j : ℕ) → j < loop .variables → getD (r .rank) j (pos 0) ≡ sum (c .Z) (A′ j) (loop .rows)
-  pub long : r .holds ≡ true → length (r .rank) ≡ 16
+-- whether all columns of a loop meet a ranking's; and then the rank is put into the front of a list, which stays otherwise
+pub record ColumnsBy (holds : Bool) (loop : Loop) (c : Ranking) (before after : List ℤ) : Type 0 where
+  pub decided : Decides holds ((j : ℕ) → j < loop .variables → ColumnAt loop c j)
+  pub put : holds ≡ true → after ≡ rank loop c ++ drop (loop .variables) before
+  pub stays : holds ≡ false → after ≡ before
 
 -- the first n of a list of totals, each less a multiplier times an entry of s, which lies from a place on; the others stay
 pub record RowTaken (multiplier : ℕ) (certificate : List ℕ) (s n : ℕ) (before after : List ℤ) : Type 0 where
@@ -69,20 +64,19 @@ pub record RowTaken (multiplier : ℕ) (certificate : List ℕ) (s n : ℕ) (bef
   pub small : (k : ℕ) → k < n → natAbs (getD after k (pos 0)) ≤ natAbs (getD before k (pos 0)) + mostEntry
   pub stays : (k : ℕ) → n ≤ k → getD after k (pos 0) ≡ getD before k (pos 0)
 
--- the fourth condition, and what is then shown: start -Yb, fall -Zb, and the rank
-pub record Shows (y-right z-right : ℤ) (rank : List ℤ) (r : Ranked) : Type 0 where
+-- the fourth condition, and what is then shown: start -Yb and fall -Zb
+pub record Shows (y-right z-right : ℤ) (r : Ranked) : Type 0 where
   pub fourth : Decides (r .holds) (z-right <ℤ pos 0)
   pub start-is : r .holds ≡ true → r .start ≡ negℤ y-right
   pub fall-is : r .holds ≡ true → r .fall ≡ negℤ z-right
-  pub rank-is : r .holds ≡ true → r .rank ≡ rank
 
--- whether a ranking of a loop holds; and then rank, start and fall
-pub record RankedBy (r : Ranked) (loop : Loop) (c : Ranking) : Type 0 where
+-- whether a ranking of a loop holds; and then start and fall, and the rank in the front of a list, which stays otherwise
+pub record RankedBy (r : Ranked) (loop : Loop) (c : Ranking) (before after : List ℤ) : Type 0 where
   pub decided : Decides (r .holds) (RankingHolds loop c)
   pub start-is : r .holds ≡ true → r .start ≡ start loop c
   pub fall-is : r .holds ≡ true → r .fall ≡ fall loop c
-  pub rank-is : r .holds ≡ true → take (loop .variables) (r .rank) ≡ rank loop c
-  pub long : r .holds ≡ true → length (r .rank) ≡ 16
+  pub put : r .holds ≡ true → after ≡ rank loop c ++ drop (loop .variables) before
+  pub stays : r .holds ≡ false → after ≡ before
 
 -- ---- exclusions: the two conditions at one row
 
@@ -109,10 +103,10 @@ Starts n c = Carried n (c .stem) (c .T) (c .s) (c .s0) 0 (c .k)
 abbrev pub Keeps : Loop → Lasso → Type 0
 Keeps loop c = Carried (loop .variables) (loop .rows) (c .H) (c .s) (c .s0) (c .h0) (c .k2)
 
--- whether a lasso of a loop holds; and then rank, start and fall, over the loop with the added row
-pub record LassoBy (r : Ranked) (loop : Loop) (c : Lasso) : Type 0 where
+-- whether a lasso of a loop holds; and then start, fall and the rank, over the loop with the added row
+pub record LassoBy (r : Ranked) (loop : Loop) (c : Lasso) (before after : List ℤ) : Type 0 where
   pub decided : Decides (r .holds) (LassoHolds loop c)
   pub start-is : r .holds ≡ true → r .start ≡ start (longer loop c) (c .ranking)
   pub fall-is : r .holds ≡ true → r .fall ≡ fall (longer loop c) (c .ranking)
-  pub rank-is : r .holds ≡ true → take (loop .variables) (r .rank) ≡ rank (longer loop c) (c .ranking)
-  pub long : r .holds ≡ true → length (r .rank) ≡ 16
+  pub put : r .holds ≡ true → after ≡ rank (longer loop c) (c .ranking) ++ drop (loop .variables) before
+  pub stays : r .holds ≡ false → after ≡ before

@@ -1,37 +1,25 @@
 // Whether a certificate's conditions hold (01, "Conditions"), from the bytes of sound records.
 ghost use mathlib.Core.Path.{_≡_};
 ghost use mathlib.Core.Bool.{true, false};
-ghost use Prim.Native.Nat.{_+_, _*_, _≤_, _<_};
+ghost use Prim.Native.Nat.{ℕ, _+_, _*_, _≤_, _<_};
 ghost use lib.IntN.{pos, negℤ, natAbs, _+ℤ_, _-ℤ_, _*ℤ_};
-ghost use Rattle.whole.specs.Sums.{sum};
+ghost use Rattle.whole.specs.Sums.{sum, tabulate};
 ghost use Rattle.theory.specs.Loops.{b};
 ghost use lib.Signed.{_≤ℤ_};
-ghost use lib.ListN.{length, getD};
+ghost use lib.ListN.{length, getD, drop};
+ghost use mathlib.Core.List.{_++_};
 ghost use Rattle.columns.specs.Places.{entryAt, rightAt, RowsIn, MultipliersIn, AllModest};
 ghost use Rattle.columns.specs.Running.{CanGrow, Modest};
-ghost use Rattle.conditions.specs.Decided.{Decides, ColumnHolds, EntryBy, RanksBy, ColumnsBy, RowTaken, Shows, RankedBy, RowExcluded, CarriedAt, Carried, Starts, Keeps, LassoBy};
+ghost use Rattle.conditions.specs.Decided.{Decides, ColumnHolds, ColumnIn, nextIn, RanksBy, ColumnsBy, RowTaken, Shows, RankedBy, RowExcluded, CarriedAt, Carried, Starts, Keeps, LassoBy};
 ghost use Rattle.conditions.specs.Held.{loop-held, ranking-held, exclusion-held, LassoIn, lasso-held, longer-held};
 ghost use Rattle.columns.specs.Lists.{multipliersFrom, entriesFrom, rowFrom, rowsFrom};
 ghost use Rattle.theory.specs.Exclusions.{ExclusionHolds};
 
-// A ranking's answer: whether its conditions hold, and then start, fall and the rank's entries.
+// A ranking's answer: whether its conditions hold, and then start and fall.
 pub struct Ranked {
     pub holds: bool,
     pub start: i64,
     pub fall: i64,
-    pub rank: [i64; 16],
-}
-
-// Its first three conditions: whether they hold, and then the rank's entries.
-pub struct Ranks {
-    pub holds: bool,
-    pub rank: [i64; 16],
-}
-
-// One column's part of it: whether its conditions hold, and its entry of the rank.
-pub struct Entry {
-    pub holds: bool,
-    pub value: i64,
 }
 
 fn fails() -> Ranked
@@ -41,7 +29,6 @@ fn fails() -> Ranked
         holds: false,
         start: 0,
         fall: 0,
-        rank: [0; 16],
     }
 }
 
@@ -67,51 +54,60 @@ fn unlifted(sums: &[i64], k: usize, lift: i64) -> i64
     sums[k] - lift
 }
 
-// Column j of a ranking, out of the lifted totals under Y and Z.
-fn ranked_column(ys: &[i64], zs: &[i64], n: usize, j: usize, ylift: i64, zlift: i64) -> Entry
+// The first three conditions at column j, out of the lifted totals under Y and Z.
+fn one_column(ys: &[i64], zs: &[i64], n: usize, j: usize, ylift: i64, zlift: i64) -> bool
     requires { ⌜ (2 * n ≤ length (now ys)) × (2 * n ≤ length (now zs)) × (n ≤ 16) × (j < n)
         × AllModest (2 * n) (now ys) × AllModest (2 * n) (now zs) × Modest ylift × Modest zlift ⌝ }
-    ensures { λ r. ⌜ EntryBy r (getD (now (ys .entry)) j (pos 0) -ℤ ylift) (getD (now (ys .entry)) (n + j) (pos 0) -ℤ ylift)
-        (getD (now (zs .entry)) j (pos 0) -ℤ zlift) (getD (now (zs .entry)) (n + j) (pos 0) -ℤ zlift) ⌝ }
+    ensures { λ r. ⌜ Decides r (ColumnIn (now (ys .entry)) ylift (now (zs .entry)) zlift n j) ⌝ }
 {
     let ya = unlifted(ys, j, ylift);
     let ya2 = unlifted(ys, n + j, ylift);
     let za = unlifted(zs, j, zlift);
     let za2 = unlifted(zs, n + j, zlift);
-    Entry {
-        holds: column_holds(ya, ya2, za, za2),
-        value: za2,
+    column_holds(ya, ya2, za, za2)
+}
+
+// The first three conditions at every column.
+fn all_columns(ys: &[i64], zs: &[i64], n: usize, ylift: i64, zlift: i64) -> bool
+    requires { ⌜ (2 * n ≤ length (now ys)) × (2 * n ≤ length (now zs)) × (n ≤ 16)
+        × AllModest (2 * n) (now ys) × AllModest (2 * n) (now zs) × Modest ylift × Modest zlift ⌝ }
+    ensures { λ r. ⌜ Decides r ((j : ℕ) → j < n → ColumnIn (now (ys .entry)) ylift (now (zs .entry)) zlift n j) ⌝ }
+{
+    for j in 0..n {
+        if !one_column(ys, zs, n, j, ylift, zlift) {
+            return false;
+        }
+    }
+    true
+}
+
+// Puts the rank, ZA', into the front of a list, out of the lifted totals under Z.
+fn put_rank(rank: &mut [i64], zs: &[i64], n: usize, zlift: i64)
+    requires { ⌜ (n ≤ length (now rank)) × (2 * n ≤ length (now zs)) × (n ≤ 16) × AllModest (2 * n) (now zs) × Modest zlift ⌝ }
+    ensures { λ _. ⌜ now (rank .exit) ≡ tabulate n (nextIn (now (zs .entry)) zlift n) ++ drop n (now (rank .entry)) ⌝ }
+{
+    for j in 0..n {
+        rank[j] = unlifted(zs, n + j, zlift);
     }
 }
 
-// The first three conditions at every column, out of the lifted totals under Y and Z.
-fn all_columns(ys: &[i64], zs: &[i64], n: usize, ylift: i64, zlift: i64) -> Ranks
+// The first three conditions, and where they hold the rank.
+fn rank_columns(ys: &[i64], zs: &[i64], n: usize, ylift: i64, zlift: i64, rank: &mut [i64]) -> bool
     requires { ⌜ (2 * n ≤ length (now ys)) × (2 * n ≤ length (now zs)) × (n ≤ 16)
-        × AllModest (2 * n) (now ys) × AllModest (2 * n) (now zs) × Modest ylift × Modest zlift ⌝ }
-    ensures { λ r. ⌜ RanksBy r (now (ys .entry)) ylift (now (zs .entry)) zlift n ⌝ }
+        × AllModest (2 * n) (now ys) × AllModest (2 * n) (now zs) × Modest ylift × Modest zlift × (n ≤ length (now rank)) ⌝ }
+    ensures { λ r. ⌜ RanksBy r (now (ys .entry)) ylift (now (zs .entry)) zlift n (now (rank .entry)) (now (rank .exit)) ⌝ }
 {
-    let mut rank = [0i64; 16];
-    for j in 0..n {
-        let entry = ranked_column(ys, zs, n, j, ylift, zlift);
-        if !entry.holds {
-            return Ranks {
-                holds: false,
-                rank: rank,
-            };
-        }
-        let value = entry.value;
-        rank[j] = value;
+    if !all_columns(ys, zs, n, ylift, zlift) {
+        return false;
     }
-    Ranks {
-        holds: true,
-        rank: rank,
-    }
+    put_rank(rank, zs, n, zlift);
+    true
 }
 
 // The first three conditions of kind 2: YA' = 0; (Y - Z)A = 0; Z(A + A') = 0.
-fn loop_columns(rows: &[u8], n: usize, m: usize, certificate: &[u8]) -> Ranks
-    requires { ⌜ RowsIn (now rows) 10 n m × (n ≤ 16) × (m ≤ 64) × MultipliersIn (now certificate) (6 + 2 * m) m ⌝ }
-    ensures { λ r. ⌜ ColumnsBy r (loop-held (now (rows .entry)) n m) (ranking-held (now (certificate .entry)) 6 m) ⌝ }
+fn loop_columns(rows: &[u8], n: usize, m: usize, certificate: &[u8], rank: &mut [i64]) -> bool
+    requires { ⌜ RowsIn (now rows) 10 n m × (n ≤ 16) × (m ≤ 64) × MultipliersIn (now certificate) (6 + 2 * m) m × (n ≤ length (now rank)) ⌝ }
+    ensures { λ r. ⌜ ColumnsBy r (loop-held (now (rows .entry)) n m) (ranking-held (now (certificate .entry)) 6 m) (now (rank .entry)) (now (rank .exit)) ⌝ }
 {
     let z = 6 + 2 * m;
     let mut ys = [0i64; 32];
@@ -119,28 +115,13 @@ fn loop_columns(rows: &[u8], n: usize, m: usize, certificate: &[u8]) -> Ranks
     columns::add_rows(&mut ys, &mut zs, rows, 10, n, certificate, 6, z, m);
     let ylift = columns::lift_of(certificate, 6, m);
     let zlift = columns::lift_of(certificate, z, m);
-    all_columns(&ys, &zs, n, ylift.sum, zlift.sum)
+    rank_columns(&ys, &zs, n, ylift.sum, zlift.sum, rank)
 }
 
-// Kind 2: those three, and Zb < 0.
-pub fn ranking(rows: &[u8], n: usize, m: usize, certificate: &[u8]) -> Ranked
-    requires { ⌜ RowsIn (now rows) 10 n m × (n ≤ 16) × (m ≤ 64) × MultipliersIn (now certificate) (6 + 2 * m) m ⌝ }
-    ensures { λ r. ⌜ RankedBy r (loop-held (now (rows .entry)) n m) (ranking-held (now (certificate .entry)) 6 m) ⌝ }
-{
-    let found = loop_columns(rows, n, m, certificate);
-    if !found.holds {
-        return fails();
-    }
-    let yb = columns::right_of(rows, 10, n, certificate, 6, m);
-    let zb = columns::right_of(rows, 10, n, certificate, 6 + 2 * m, m);
-    let rank = found.rank;
-    shown(yb.sum, zb.sum, rank)
-}
-
-// The fourth condition, and what a ranking that meets all four shows.
-fn shown(yb: i64, zb: i64, rank: [i64; 16]) -> Ranked
+// The fourth condition, and what a ranking that meets it shows.
+fn shown(yb: i64, zb: i64) -> Ranked
     requires { ⌜ CanGrow yb × CanGrow zb ⌝ }
-    ensures { λ r. ⌜ Shows yb zb rank r ⌝ }
+    ensures { λ r. ⌜ Shows yb zb r ⌝ }
 {
     if 0 <= zb {
         return fails();
@@ -149,8 +130,25 @@ fn shown(yb: i64, zb: i64, rank: [i64; 16]) -> Ranked
         holds: true,
         start: -yb,
         fall: -zb,
-        rank: rank,
     }
+}
+
+// Kind 2: Zb < 0, which costs least, and the first three. The rank is put into the list where all
+// hold.
+pub fn ranking(rows: &[u8], n: usize, m: usize, certificate: &[u8], rank: &mut [i64]) -> Ranked
+    requires { ⌜ RowsIn (now rows) 10 n m × (n ≤ 16) × (m ≤ 64) × MultipliersIn (now certificate) (6 + 2 * m) m × (n ≤ length (now rank)) ⌝ }
+    ensures { λ r. ⌜ RankedBy r (loop-held (now (rows .entry)) n m) (ranking-held (now (certificate .entry)) 6 m) (now (rank .entry)) (now (rank .exit)) ⌝ }
+{
+    let yb = columns::right_of(rows, 10, n, certificate, 6, m);
+    let zb = columns::right_of(rows, 10, n, certificate, 6 + 2 * m, m);
+    let told = shown(yb.sum, zb.sum);
+    if !told.holds {
+        return told;
+    }
+    if !loop_columns(rows, n, m, certificate, rank) {
+        return fails();
+    }
+    told
 }
 
 // Kind 3 at the row that starts at a place: A·V + A'·U <= 0, and A·(W - V) + A'·W <= q·b.
@@ -317,10 +315,12 @@ fn longer_columns(
     certificate: &[u8],
     place: usize,
     s: usize,
-) -> Ranks
+    rank: &mut [i64],
+) -> bool
     requires { ⌜ RowsIn (now rows) 10 n m × (m ≤ 64) × (n ≤ 16) × (place < 65536) × (s < 65536)
-        × (place + 4 * (m + 1) ≤ length (now certificate)) × (s + 2 * n + 4 ≤ length (now certificate)) ⌝ }
-    ensures { λ r. ⌜ ColumnsBy r (longer-held (now (rows .entry)) n m (now (certificate .entry)) s) (ranking-held (now (certificate .entry)) place (m + 1)) ⌝ }
+        × (place + 4 * (m + 1) ≤ length (now certificate)) × (s + 2 * n + 4 ≤ length (now certificate)) × (n ≤ length (now rank)) ⌝ }
+    ensures { λ r. ⌜ ColumnsBy r (longer-held (now (rows .entry)) n m (now (certificate .entry)) s) (ranking-held (now (certificate .entry)) place (m + 1))
+        (now (rank .entry)) (now (rank .exit)) ⌝ }
 {
     let z = place + 2 * (m + 1);
     let mut ys = [0i64; 32];
@@ -342,7 +342,7 @@ fn longer_columns(
     );
     let ylift = columns::lift_of(certificate, place, m);
     let zlift = columns::lift_of(certificate, z, m);
-    all_columns(&ys, &zs, n, ylift.sum, zlift.sum)
+    rank_columns(&ys, &zs, n, ylift.sum, zlift.sum, rank)
 }
 
 // The ranking of kind 4: the four conditions over the loop with the added row.
@@ -353,19 +353,23 @@ fn lasso_ranking(
     certificate: &[u8],
     place: usize,
     s: usize,
+    rank: &mut [i64],
 ) -> Ranked
     requires { ⌜ RowsIn (now rows) 10 n m × (m ≤ 64) × (n ≤ 16) × (place < 65536) × (s < 65536)
-        × (place + 4 * (m + 1) ≤ length (now certificate)) × (s + 2 * n + 4 ≤ length (now certificate)) ⌝ }
-    ensures { λ r. ⌜ RankedBy r (longer-held (now (rows .entry)) n m (now (certificate .entry)) s) (ranking-held (now (certificate .entry)) place (m + 1)) ⌝ }
+        × (place + 4 * (m + 1) ≤ length (now certificate)) × (s + 2 * n + 4 ≤ length (now certificate)) × (n ≤ length (now rank)) ⌝ }
+    ensures { λ r. ⌜ RankedBy r (longer-held (now (rows .entry)) n m (now (certificate .entry)) s) (ranking-held (now (certificate .entry)) place (m + 1))
+        (now (rank .entry)) (now (rank .exit)) ⌝ }
 {
-    let found = longer_columns(rows, n, m, certificate, place, s);
-    if !found.holds {
-        return fails();
-    }
     let yb = lasso_right(rows, n, m, certificate, place, s);
     let zb = lasso_right(rows, n, m, certificate, place + 2 * (m + 1), s);
-    let rank = found.rank;
-    shown(yb, zb, rank)
+    let told = shown(yb, zb);
+    if !told.holds {
+        return told;
+    }
+    if !longer_columns(rows, n, m, certificate, place, s, rank) {
+        return fails();
+    }
+    told
 }
 
 // Start: TB = 0, TB' = -k s, Td <= k s0.
@@ -409,10 +413,18 @@ fn keeps(rows: &[u8], n: usize, m: usize, certificate: &[u8], ms: usize) -> bool
     )
 }
 
-// Kind 4: start, kept, and the ranking over the loop with the added row.
-pub fn lasso(rows: &[u8], n: usize, m: usize, certificate: &[u8], ms: usize) -> Ranked
-    requires { ⌜ RowsIn (now rows) 10 n m × LassoIn (now certificate) n m ms ⌝ }
-    ensures { λ r. ⌜ LassoBy r (loop-held (now (rows .entry)) n m) (lasso-held (now (certificate .entry)) n m ms) ⌝ }
+// Kind 4: start, kept, and the ranking over the loop with the added row. The rank is put into the
+// list where all hold.
+pub fn lasso(
+    rows: &[u8],
+    n: usize,
+    m: usize,
+    certificate: &[u8],
+    ms: usize,
+    rank: &mut [i64],
+) -> Ranked
+    requires { ⌜ RowsIn (now rows) 10 n m × LassoIn (now certificate) n m ms × (n ≤ length (now rank)) ⌝ }
+    ensures { λ r. ⌜ LassoBy r (loop-held (now (rows .entry)) n m) (lasso-held (now (certificate .entry)) n m ms) (now (rank .entry)) (now (rank .exit)) ⌝ }
 {
     if !starts(certificate, n, m, ms) {
         return fails();
@@ -421,5 +433,6 @@ pub fn lasso(rows: &[u8], n: usize, m: usize, certificate: &[u8], ms: usize) -> 
         return fails();
     }
     let s = 8 + ms * (4 * n + 4);
-    lasso_ranking(rows, n, m, certificate, s + 2 * n + 10 + 2 * ms + 2 * m, s)
+    let y = s + 2 * n + 10 + 2 * ms + 2 * m;
+    lasso_ranking(rows, n, m, certificate, y, s, rank)
 }

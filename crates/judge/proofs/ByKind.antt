@@ -2,9 +2,9 @@
 use mathlib.Core.Path.{_≡_, refl, sym, ap, _∙_}
 use Prim.Native.Nat.{ℕ, _≤_, _<_}
 use mathlib.Core.Bool.{Bool, true, false}
-use mathlib.Core.List.{List, _++_}
+use mathlib.Core.List.{List}
 use lib.IntN.{ℤ}
-use lib.ListN.{length, take, drop}
+use lib.ListN.{length}
 use Rattle.endian.specs.Numbers.{littleAt}
 use Rattle.record.specs.Layouts.{Kind, ranking, exclusion, lasso, is-loop, is-certificate}
 use Rattle.record.specs.Readers.{counts-read}
@@ -60,7 +60,8 @@ module _ (rows : List ℕ) (n m : ℕ) (l : LoopSound rows n m) (certificate : L
 
   -- ---- kind 2
 
-  module _ (c : CertificateSound is-certificate rows certificate ranking) (r : Ranked) (by : RankedBy r (loop-held rows n m) (ranking-held certificate 6 m)) (room : n ≤ length lent) where
+  module _ (c : CertificateSound is-certificate rows certificate ranking) (r : Ranked) (after : List ℤ)
+      (by : RankedBy r (loop-held rows n m) (ranking-held certificate 6 m) lent after) (room : n ≤ length lent) where
     ranking-told : ranking-in (j .records .certificate-is) ≡ ranking-held certificate 6 m
     unfolding judge-of certificate-record is-loop
     ranking-told =
@@ -71,16 +72,19 @@ module _ (rows : List ℕ) (n m : ℕ) (l : LoopSound rows n m) (certificate : L
     unfolding judge-of
     ranking-room = rw variables-told room
 
-    pub ranking-refused : r .holds ≡ false → (refusal-of 2 8 0 ≡ judges j) × (lent ≡ rank-after j lent)
+    pub ranking-refused : r .holds ≡ false → (refusal-of 2 8 0 ≡ judges j) × (after ≡ rank-after j lent)
     unfolding has-rank
     ranking-refused e =
         let b = both ranking c in
         let told = kind-told ranking c in
+        let answers =
         refused-so j lent 2 8 0
         (at-conditions j (b .loop-sound) (b .certificate-sound) (room-there j (rw told) .1 ranking-room)
         (λ h. by .decided .no-fails e (rw (loop-told, ranking-told) at (ranking-conditions (j .records) told .0 h))))
+        in
+        (answers .0, by .stays e ∙ answers .1)
 
-    pub ranking-accepted : r .holds ≡ true → (shows (Ranking (r .start) (r .fall)) ≡ judges j) × (take n (r .rank) ++ drop n lent ≡ rank-after j lent)
+    pub ranking-accepted : r .holds ≡ true → (shows (Ranking (r .start) (r .fall)) ≡ judges j) × (after ≡ rank-after j lent)
     unfolding loop-held
     ranking-accepted e =
         let told = kind-told ranking c in
@@ -90,7 +94,7 @@ module _ (rows : List ℕ) (n m : ℕ) (l : LoopSound rows n m) (certificate : L
         in
         let answers = ranking-answers j lent told zero-told in (
           rw (by .start-is e, by .fall-is e) (sym (rw (loop-told, ranking-told) at (answers .verdict-is))),
-          rw (by .rank-is e) (sym (rw (loop-told, ranking-told, variables-told) at (answers .list-is))),
+          by .put e ∙ sym (rw (loop-told, ranking-told, variables-told) at (answers .list-is)),
         )
 
   -- ---- kind 3
@@ -124,7 +128,7 @@ module _ (rows : List ℕ) (n m : ℕ) (l : LoopSound rows n m) (certificate : L
 
   module _ (ms : ℕ) (c : CertificateSound is-certificate rows certificate lasso)
       (ms-is : ms ≡ counts-read (certificate-record is-certificate (loop-record rows) certificate) .ms) (r : Ranked)
-      (by : LassoBy r (loop-held rows n m) (lasso-held certificate n m ms)) (room : n ≤ length lent) where
+      (after : List ℤ) (by : LassoBy r (loop-held rows n m) (lasso-held certificate n m ms) lent after) (room : n ≤ length lent) where
     lasso-told : lasso-in (j .records .certificate-is) ≡ lasso-held certificate n m ms
     unfolding judge-of certificate-record is-loop
     lasso-told =
@@ -135,16 +139,19 @@ module _ (rows : List ℕ) (n m : ℕ) (l : LoopSound rows n m) (certificate : L
     unfolding judge-of
     lasso-room = rw variables-told room
 
-    pub lasso-refused : r .holds ≡ false → (refusal-of 2 8 0 ≡ judges j) × (lent ≡ rank-after j lent)
+    pub lasso-refused : r .holds ≡ false → (refusal-of 2 8 0 ≡ judges j) × (after ≡ rank-after j lent)
     unfolding has-rank
     lasso-refused e =
         let b = both lasso c in
         let told = kind-told lasso c in
+        let answers =
         refused-so j lent 2 8 0
         (at-conditions j (b .loop-sound) (b .certificate-sound) (room-there j (rw told) .1 lasso-room)
         (λ h. by .decided .no-fails e (rw (loop-told, lasso-told) at (lasso-conditions (j .records) told .0 h))))
+        in
+        (answers .0, by .stays e ∙ answers .1)
 
-    pub lasso-accepted : r .holds ≡ true → (shows (Lasso (r .start) (r .fall)) ≡ judges j) × (take n (r .rank) ++ drop n lent ≡ rank-after j lent)
+    pub lasso-accepted : r .holds ≡ true → (shows (Lasso (r .start) (r .fall)) ≡ judges j) × (after ≡ rank-after j lent)
     unfolding loop-held
     lasso-accepted e =
         let told = kind-told lasso c in
@@ -154,5 +161,5 @@ module _ (rows : List ℕ) (n m : ℕ) (l : LoopSound rows n m) (certificate : L
         in
         let answers = lasso-answers j lent told zero-told in (
           rw (by .start-is e, by .fall-is e) (sym (rw (loop-told, lasso-told) at (answers .verdict-is))),
-          rw (by .rank-is e) (sym (rw (loop-told, lasso-told, variables-told) at (answers .list-is))),
+          by .put e ∙ sym (rw (loop-told, lasso-told, variables-told) at (answers .list-is)),
         )

@@ -1,5 +1,4 @@
 pub mod Held
-pub mod Puts
 pub mod Sizes
 pub mod Ways
 pub mod ByKind

@@ -1,8 +1,5 @@
 // Judge and bound: whether a certificate's bytes prove what they claim of a loop's bytes. Every input has an answer; a refusal changes nothing that was lent.
 ghost use mathlib.Core.Path.{_≡_};
-ghost use mathlib.Core.List.{_++_};
-ghost use Prim.Native.Nat.{_≤_};
-ghost use lib.ListN.{length, take, drop};
 ghost use Rattle.record.specs.Layouts.{ranking, exclusion, lasso, is-certificate};
 ghost use Rattle.verdict.specs.Outcomes.{grade-of};
 ghost use Rattle.verdict.specs.Judging.{judges, rank-after, judge-of};
@@ -26,17 +23,6 @@ fn refused(about: usize, number: usize, place: usize) -> Verdict
     }
 }
 
-// Puts the first n of a rank's entries into the list; the rest of the list stays.
-fn put_rank(rank: &mut [i64], entries: [i64; 16], n: usize)
-    requires { ⌜ (length entries ≡ 16) × (n ≤ 16) × (n ≤ length (now rank)) ⌝ }
-    ensures { λ _. ⌜ now (rank .exit) ≡ take n entries ++ drop n (now (rank .entry)) ⌝ }
-{
-    for j in 0..n {
-        let entry = entries[j];
-        rank[j] = entry;
-    }
-}
-
 // Kind 2, of sound records.
 fn judge_ranking(rows: &[u8], n: usize, m: usize, certificate: &[u8], rank: &mut [i64]) -> Verdict
     requires { ⌜ LoopSound (now rows) n m × CertificateSound is-certificate (now rows) (now certificate) ranking ⌝ }
@@ -45,12 +31,10 @@ fn judge_ranking(rows: &[u8], n: usize, m: usize, certificate: &[u8], rank: &mut
     if rank.len() < n {
         return refused(0, 7, n);
     }
-    let shown = conditions::ranking(rows, n, m, certificate);
+    let shown = conditions::ranking(rows, n, m, certificate, rank);
     if !shown.holds {
         return refused(2, 8, 0);
     }
-    let entries = shown.rank;
-    put_rank(rank, entries, n);
     Verdict {
         number: 0,
         place: 0,
@@ -106,12 +90,10 @@ fn judge_lasso(
     if rank.len() < n {
         return refused(0, 7, n);
     }
-    let shown = conditions::lasso(rows, n, m, certificate, ms);
+    let shown = conditions::lasso(rows, n, m, certificate, ms, rank);
     if !shown.holds {
         return refused(2, 8, 0);
     }
-    let entries = shown.rank;
-    put_rank(rank, entries, n);
     Verdict {
         number: 0,
         place: 0,

@@ -14,17 +14,14 @@ use borrow.Author.Needs.{needs, sfits-of}
 use Rattle.bound.proofs.bound_at.Statement.{statement}
 use Rattle.bound.proofs.bound_at.Tie as tie
 
-array-share-prefix-entries : tie.Need-array-share-prefix-entries
-array-share-prefix-entries c = search needs
-
 slice-aggregate-rank-at : tie.Need-slice-aggregate-rank-at
-slice-aggregate-rank-at c = let s = c .before in sym (length-take-le (s .args .n) (s .args .t1) (omega (arith, s .pre .0 .long, s .pre .1)))
+slice-aggregate-rank-at c = let s = c .before in sym (length-take-le (s .args .n) (s .args .entries .now) (omega (arith, s .pre .0 .long, s .pre .1)))
 
 rank-at-requires : tie.Need-rank-at-requires
 rank-at-requires c κs =
     let s = c .before in
     let p = s .pre .0 in
-    let full : length (take (s .args .n) (s .args .t1)) ≡ s .args .n = length-take-le (s .args .n) (s .args .t1) (omega (arith, p .long, s .pre .1)) in
+    let full : length (take (s .args .n) (s .args .entries .now)) ≡ s .args .n = length-take-le (s .args .n) (s .args .entries .now) (omega (arith, p .long, s .pre .1)) in
     (omega (arith, full, s .pre .1), omega (arith, full, s .pre .2), p .entries-small, p .state-small)
 
 steps-requires : tie.Need-steps-requires
@@ -33,7 +30,7 @@ steps-requires c κs =
     let a = s .args in
     let p = s .pre .0 in
     let value = c .before .rank-at in
-    let same : natAbs (value .result .sum -ℤ a .start) ≡ natAbs (dot (take (a .n) (a .t1)) (a .state .now) -ℤ a .start) = ap (λ z. natAbs (z -ℤ a .start)) (value .ensures .0) in
+    let same : natAbs (value .result .sum -ℤ a .start) ≡ natAbs (dot (take (a .n) (a .entries .now)) (a .state .now) -ℤ a .start) = ap (λ z. natAbs (z -ℤ a .start)) (value .ensures .0) in
     rw (toZ-ofZ (sfits-of (value .ok .1 .1 .0 .1)), toZ-ofZ (s .fits .start), toZ-ofZ (s .fits .fall)) (omega (arith, same, p .above-fits), p .falls)
 
 returns : tie.Need-returns
@@ -47,10 +44,4 @@ returns c =
 
 pub bound-at-spec : {M : Type 1} → statement M
 bound-at-spec =
-    tie.close
-    (tie.spec
-    array-share-prefix-entries
-    slice-aggregate-rank-at
-    rank-at-requires
-    steps-requires
-    returns)
+    tie.close (tie.spec slice-aggregate-rank-at rank-at-requires steps-requires returns)

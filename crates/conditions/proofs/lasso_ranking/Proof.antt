@@ -1,27 +1,16 @@
--- `conditions::lasso_ranking` meets its contract: the first three conditions, then the fourth. Assumes nothing.
+-- `conditions::lasso_ranking` meets its contract: the fourth condition, then the first three. Assumes nothing.
 use Prim.Native.Nat.{_+_}
-use native.Mathlib.Omega.{arith}
 use mir.Facts.{toZ-ofZ}
 use borrow.Author.Needs.{needs}
 use borrow.Author.Tests.{not-true, not-false}
+use Rattle.whole.specs.Sums.{sum}
+use Rattle.theory.specs.Loops.{b}
+use Rattle.conditions.specs.Decided.{Shows}
 use Rattle.conditions.specs.Held.{loop-held, ranking-held, longer-held}
-use Rattle.conditions.proofs.RankedLaws.{ranked-fails, ranked-holds}
+use Rattle.conditions.proofs.RankedLaws.{fourth-fails, three-fail, all-hold}
 use Rattle.conditions.proofs.Totals.{grown-fits}
 use Rattle.conditions.proofs.lasso_ranking.Statement.{statement}
 use Rattle.conditions.proofs.lasso_ranking.Tie as tie
-
-longer-columns-requires : tie.Need-longer-columns-requires
-longer-columns-requires c κs = search needs
-
-fails-requires : tie.Need-fails-requires
-fails-requires c κs = search needs
-
-returns : tie.Need-returns
-returns c =
-    let called = c .before .before .before .longer-columns in
-    let a = c .before .before .before .before .before .before .args in
-    ranked-fails (longer-held (a .rows .now) (a .n) (a .m) (a .certificate .now) (a .s)) (ranking-held (a .certificate .now) (a .place) (a .m + 1)) (called .result) (called .ensures) (c .fails .result)
-    (not-true (called .result .holds) (c .before .if1 .taken)) (c .fails .ensures)
 
 lasso-right-requires : tie.Need-lasso-right-requires
 lasso-right-requires c κs = search needs
@@ -41,33 +30,73 @@ lasso-right-requires-2 c κs = search needs
 shown-requires : tie.Need-shown-requires
 shown-requires c κs = search needs
 
-returns-2 : tie.Need-returns-2
-unfolding longer-held loop-held ranking-held
-returns-2 c =
-    let second = c .before .before in
+-- what is shown, of the sums of the theory
+told-of : (c : tie.After-shown)
+    → let a = c .before .before .before .before .before .args in
+    let loop = longer-held (a .rows .now) (a .n) (a .m) (a .certificate .now) (a .s) in
+    let ranking = ranking-held (a .certificate .now) (a .place) (a .m + 1) in
+    Shows (sum (ranking .Y) b (loop .rows)) (sum (ranking .Z) b (loop .rows)) (c .shown .result)
+unfolding ranking-held
+told-of c =
+    let second = c .before in
     let first = second .before in
-    let called = first .before .before .before in
-    let a = called .before .before .before .args in
-    ranked-holds (longer-held (a .rows .now) (a .n) (a .m) (a .certificate .now) (a .s)) (ranking-held (a .certificate .now) (a .place) (a .m + 1)) (called .longer-columns .result)
-    (called .longer-columns .ensures) (c .shown .result) (not-false (called .longer-columns .result .holds) (first .before .if1 .left)) (omega arith)
-    (rw (
+    rw (
       toZ-ofZ (grown-fits (first .lasso-right .ensures .1)),
       toZ-ofZ (grown-fits (second .lasso-right2 .ensures .1)),
       first .lasso-right .ensures .0,
       second .lasso-right2 .ensures .0,
-    ) at (c .shown .ensures))
+    ) at (c .shown .ensures)
+
+returns : tie.Need-returns
+returns c =
+    let told = c .before .before in
+    let a = told .before .before .before .before .before .args in
+    fourth-fails (longer-held (a .rows .now) (a .n) (a .m) (a .certificate .now) (a .s)) (ranking-held (a .certificate .now) (a .place) (a .m + 1)) (a .rank .now) (told .shown .result) (told-of told)
+    (not-true (told .shown .result .holds) (c .if1 .taken))
+
+longer-columns-requires : tie.Need-longer-columns-requires
+longer-columns-requires c κs = search needs
+
+fails-requires : tie.Need-fails-requires
+fails-requires c κs = search needs
+
+same-length : tie.Need-same-length
+same-length c = search needs
+
+returns-2 : tie.Need-returns-2
+returns-2 c =
+    let called = c .before .before .before .longer-columns in
+    let told = c .before .before .before .before .before .before .before in
+    let a = told .before .before .before .before .before .args in
+    three-fail (longer-held (a .rows .now) (a .n) (a .m) (a .certificate .now) (a .s)) (ranking-held (a .certificate .now) (a .place) (a .m + 1)) (a .rank .now) (told .shown .result) (told-of told)
+    (c .fails .result) (called .last .1 .1 .1 .1 .1 .1 .0) (called .result) (called .ensures) (not-true (called .result) (c .before .if2 .taken)) (c .fails .ensures)
+
+same-length-2 : tie.Need-same-length-2
+same-length-2 c = search needs
+
+returns-3 : tie.Need-returns-3
+returns-3 c =
+    let called = c .before .before .longer-columns in
+    let told = c .before .before .before .before .before .before in
+    let a = told .before .before .before .before .before .args in
+    all-hold (longer-held (a .rows .now) (a .n) (a .m) (a .certificate .now) (a .s)) (ranking-held (a .certificate .now) (a .place) (a .m + 1)) (a .rank .now) (told .shown .result) (told-of told)
+    (called .last .1 .1 .1 .1 .1 .1 .0) (called .result) (called .ensures) (not-false (called .result) (c .if2 .left))
+    (not-false (told .shown .result .holds) (c .before .before .before .before .if1 .left))
 
 pub lasso-ranking-spec : {M : Type 1} → statement M
 lasso-ranking-spec =
     tie.close
     (tie.spec
-    longer-columns-requires
-    fails-requires
-    returns
     lasso-right-requires
     add-lasso-right
     mul-lasso-right
     add-lasso-right-2
     lasso-right-requires-2
     shown-requires
-    returns-2)
+    returns
+    longer-columns-requires
+    fails-requires
+    same-length
+    returns-2
+    same-length-2
+    returns-3)

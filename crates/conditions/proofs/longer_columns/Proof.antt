@@ -93,17 +93,17 @@ lift-of-requires c κs = search needs
 lift-of-requires-2 : tie.Need-lift-of-requires-2
 lift-of-requires-2 c κs = search needs
 
-slice-aggregate-all-columns : tie.Need-slice-aggregate-all-columns
-slice-aggregate-all-columns c = search needs
+slice-aggregate-rank-columns : tie.Need-slice-aggregate-rank-columns
+slice-aggregate-rank-columns c = search needs
 
-slice-aggregate-all-columns-2 : tie.Need-slice-aggregate-all-columns-2
-slice-aggregate-all-columns-2 c = search needs
+slice-aggregate-rank-columns-2 : tie.Need-slice-aggregate-rank-columns-2
+slice-aggregate-rank-columns-2 c = search needs
 
-all-columns-requires : tie.Need-all-columns-requires
-all-columns-requires c κs =
-    let lifted = c .before .before .before .before .lift-of2 in
-    let lifted-y = c .before .before .before .before .before .lift-of in
-    let taken = c .before .before .before .before .before .before .before in
+rank-columns-requires : tie.Need-rank-columns-requires
+rank-columns-requires c κs =
+    let lifted = c .before .before .before .before .before .lift-of2 in
+    let lifted-y = c .before .before .before .before .before .before .lift-of in
+    let taken = c .before .before .before .before .before .before .before .before in
     let taken-y = taken .before .before .before .before in
     let rows = taken-y .before .before .before .before .before in
     let start = rows .before .before .before .before .before in
@@ -121,14 +121,18 @@ all-columns-requires c κs =
           (rows .add-rows .ensures .1) (taken .take-row2 .ensures),
       passed-modest (lifted-y .result .sum) y-modest,
       passed-modest (lifted .result .sum) z-modest,
+      start .pre .7,
     )
+
+same-length : tie.Need-same-length
+same-length c = search needs
 
 returns : tie.Need-returns
 unfolding longer-held loop-held
 returns c =
-    let lifted = c .before .before .before .before .before .lift-of2 in
-    let lifted-y = c .before .before .before .before .before .before .lift-of in
-    let taken = c .before .before .before .before .before .before .before .before in
+    let lifted = c .before .before .before .before .before .before .before .lift-of2 in
+    let lifted-y = c .before .before .before .before .before .before .before .before .lift-of in
+    let taken = c .before .before .before .before .before .before .before .before .before .before in
     let taken-y = taken .before .before .before .before in
     let rows = taken-y .before .before .before .before .before in
     let start = rows .before .before .before .before .before in
@@ -140,7 +144,7 @@ returns c =
     let ys = taken-y .take-row .last .0 in
     let zs = taken .take-row2 .last .0 in
     columns-of (longer-held (a .rows .now) (a .n) (a .m) (a .certificate .now) (a .s)) (ranking-held (a .certificate .now) (a .place) (a .m + 1)) ys (lifted-y .result .sum) zs (lifted .result .sum)
-    (c .all-columns .result)
+    (c .before .rank-columns .result) (a .rank .now) (c .before .rank-columns .last .1 .1 .1 .1 .1 .0)
     (totalled-longer (a .rows .now) (a .certificate .now) (a .n) (a .m) (a .place) (a .s) (rows .add-rows .last .0) ys (lifted-y .result .sum) (rows .add-rows .last .1 .0) zs (lifted .result .sum)
     (taken-y .before .u16-at .result) (taken .before .u16-at2 .result) few
     (rows .add-rows .ensures .0) (taken-y .take-row .ensures) (lifted-y .ensures) (rows .add-rows .ensures .1) (taken .take-row2 .ensures) (lifted .ensures)
@@ -148,7 +152,7 @@ returns c =
     (rw (
       toZ-ofZ {w = w64} {z = lifted-y .result .sum} (modest-fits y-modest),
       toZ-ofZ {w = w64} {z = lifted .result .sum} (modest-fits z-modest),
-    ) at (c .all-columns .ensures))
+    ) at (c .before .rank-columns .ensures))
 
 pub longer-columns-spec : {M : Type 1} → statement M
 longer-columns-spec =
@@ -172,7 +176,8 @@ longer-columns-spec =
     take-row-requires-2
     lift-of-requires
     lift-of-requires-2
-    slice-aggregate-all-columns
-    slice-aggregate-all-columns-2
-    all-columns-requires
+    slice-aggregate-rank-columns
+    slice-aggregate-rank-columns-2
+    rank-columns-requires
+    same-length
     returns)

@@ -39,18 +39,18 @@ lift-of-requires c κs = search needs
 lift-of-requires-2 : tie.Need-lift-of-requires-2
 lift-of-requires-2 c κs = search needs
 
-slice-aggregate-all-columns : tie.Need-slice-aggregate-all-columns
-slice-aggregate-all-columns c = search needs
+slice-aggregate-rank-columns : tie.Need-slice-aggregate-rank-columns
+slice-aggregate-rank-columns c = search needs
 
-slice-aggregate-all-columns-2 : tie.Need-slice-aggregate-all-columns-2
-slice-aggregate-all-columns-2 c = search needs
+slice-aggregate-rank-columns-2 : tie.Need-slice-aggregate-rank-columns-2
+slice-aggregate-rank-columns-2 c = search needs
 
-all-columns-requires : tie.Need-all-columns-requires
-all-columns-requires c κs =
-    let lifted = c .before .before .before .before .lift-of2 in
-    let lifted-y = c .before .before .before .before .before .lift-of in
-    let rows = c .before .before .before .before .before .before .before .before .add-rows in
-    let start = c .before .before .before .before .before .before .before .before .before .before .before .before .before in
+rank-columns-requires : tie.Need-rank-columns-requires
+rank-columns-requires c κs =
+    let lifted = c .before .before .before .before .before .lift-of2 in
+    let lifted-y = c .before .before .before .before .before .before .lift-of in
+    let rows = c .before .before .before .before .before .before .before .before .before .add-rows in
+    let start = c .before .before .before .before .before .before .before .before .before .before .before .before .before .before in
     let a = start .args in
     let few : a .m < 16384 = omega (arith, start .pre .2) in (
       omega (arith, start .pre .1, rows .kept .0),
@@ -60,27 +60,31 @@ all-columns-requires c κs =
       sums-modest (a .certificate .now) (6 + 2 * a .m) (a .rows .now) 10 (a .n) (a .m) (rows .last .1 .0) (rows .ensures .1) few,
       passed-modest (lifted-y .result .sum) (lift-modest (a .m) _ (lifted-y .result .sum) (omega (arith, start .pre .2)) (lifted-y .ensures)),
       passed-modest (lifted .result .sum) (lift-modest (a .m) _ (lifted .result .sum) (omega (arith, start .pre .2)) (lifted .ensures)),
+      start .pre .4,
     )
+
+same-length : tie.Need-same-length
+same-length c = search needs
 
 returns : tie.Need-returns
 unfolding loop-held
 returns c =
-    let lifted = c .before .before .before .before .before .lift-of2 in
-    let lifted-y = c .before .before .before .before .before .before .lift-of in
-    let rows = c .before .before .before .before .before .before .before .before .before .add-rows in
-    let start = c .before .before .before .before .before .before .before .before .before .before .before .before .before .before in
+    let lifted = c .before .before .before .before .before .before .before .lift-of2 in
+    let lifted-y = c .before .before .before .before .before .before .before .before .lift-of in
+    let rows = c .before .before .before .before .before .before .before .before .before .before .before .add-rows in
+    let start = c .before .before .before .before .before .before .before .before .before .before .before .before .before .before .before .before in
     let a = start .args in
     let few : a .m ≤ 65 = omega (arith, start .pre .2) in
     let y-modest = lift-modest (a .m) _ (lifted-y .result .sum) few (lifted-y .ensures) in
     let z-modest = lift-modest (a .m) _ (lifted .result .sum) few (lifted .ensures) in
     columns-of (loop-held (a .rows .now) (a .n) (a .m)) (ranking-held (a .certificate .now) 6 (a .m)) (rows .last .0) (lifted-y .result .sum) (rows .last .1 .0) (lifted .result .sum)
-    (c .all-columns .result)
+    (c .before .rank-columns .result) (a .rank .now) (c .before .rank-columns .last .1 .1 .1 .1 .1 .0)
     (totalled (a .rows .now) (a .certificate .now) (a .n) (a .m) 6 (rows .last .0) (lifted-y .result .sum) (rows .last .1 .0) (lifted .result .sum) few
     (rows .ensures .0) (lifted-y .ensures) (rows .ensures .1) (lifted .ensures))
     (rw (
       toZ-ofZ {w = w64} {z = lifted-y .result .sum} (modest-fits y-modest),
       toZ-ofZ {w = w64} {z = lifted .result .sum} (modest-fits z-modest),
-    ) at (c .all-columns .ensures))
+    ) at (c .before .rank-columns .ensures))
 
 pub loop-columns-spec : {M : Type 1} → statement M
 loop-columns-spec =
@@ -93,7 +97,8 @@ loop-columns-spec =
     add-rows-requires
     lift-of-requires
     lift-of-requires-2
-    slice-aggregate-all-columns
-    slice-aggregate-all-columns-2
-    all-columns-requires
+    slice-aggregate-rank-columns
+    slice-aggregate-rank-columns-2
+    rank-columns-requires
+    same-length
     returns)

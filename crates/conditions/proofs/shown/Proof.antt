@@ -1,5 +1,4 @@
 -- `conditions::shown` meets its contract. Assumes nothing.
-use mathlib.Core.Path.{refl}
 use lib.IntN.{pos, negℤ, +ℤ-idl}
 use mir.Facts.{toZ-ofZ}
 use borrow.Author.Needs.{needs}
@@ -14,13 +13,13 @@ fails-requires c κs = search needs
 returns : tie.Need-returns
 returns c =
     let s = c .before .before in
-    shows-nothing (s .args .yb) (s .args .zb) (s .args .rank) (c .fails .result) (c .fails .ensures) (true-le (pos 0) (s .args .zb) (rw (toZ-ofZ (s .fits .zb)) at (c .before .if1 .taken)))
+    shows-nothing (s .args .yb) (s .args .zb) (c .fails .result) (c .fails .ensures) (true-le (pos 0) (s .args .zb) (rw (toZ-ofZ (s .fits .zb)) at (c .before .if1 .taken)))
+
+sub-t4 : tie.Need-sub-t4
+sub-t4 c = rw (toZ-ofZ (c .before .fits .yb)) (minus-fits (c .before .args .yb) (c .before .pre .0))
 
 sub-t5 : tie.Need-sub-t5
-sub-t5 c = rw (toZ-ofZ (c .before .fits .yb)) (minus-fits (c .before .args .yb) (c .before .pre .0))
-
-sub-t6 : tie.Need-sub-t6
-sub-t6 c = rw (toZ-ofZ (c .before .fits .zb)) (minus-fits (c .before .args .zb) (c .before .pre .1))
+sub-t5 c = rw (toZ-ofZ (c .before .fits .zb)) (minus-fits (c .before .args .zb) (c .before .pre .1))
 
 returns-2 : tie.Need-returns-2
 returns-2 c =
@@ -30,8 +29,7 @@ returns-2 c =
       fourth = answer-yes (false-le (pos 0) (s .args .zb) (rw (toZ-ofZ (s .fits .zb)) at (c .if1 .left)));
       start-is = λ t. +ℤ-idl (negℤ (s .args .yb));
       fall-is = λ t. +ℤ-idl (negℤ (s .args .zb));
-      rank-is = λ t. refl;
     })
 
 pub shown-spec : {M : Type 1} → statement M
-shown-spec = tie.close (tie.spec fails-requires returns sub-t5 sub-t6 returns-2)
+shown-spec = tie.close (tie.spec fails-requires returns sub-t4 sub-t5 returns-2)

@@ -4,12 +4,10 @@ use Rattle.verdict.specs.Outcomes.{grade-of}
 use Rattle.judge.proofs.grade.Statement.{statement}
 use Rattle.judge.proofs.grade.Tie as tie
 
--- src/lib.rt:77:1
 returns : tie.Need-returns
 unfolding grade-of
 returns c = rw (eq-eqb (c .before .args .q) 1 (c .if1 .taken))
 
--- src/lib.rt:77:1
 returns-2 : tie.Need-returns-2
 unfolding grade-of
 returns-2 c = rw (ne-eqb (c .before .args .q) 1 (c .if1 .left))

@@ -7,15 +7,12 @@ use borrow.Author.Needs.{needs}
 use Rattle.judge.proofs.judge.Statement.{statement}
 use Rattle.judge.proofs.judge.Tie as tie
 
--- src/lib.rt:130:9
 check-loop-requires : tie.Need-check-loop-requires
 check-loop-requires c κs = search needs
 
--- src/lib.rt:132:9
 refused-requires : tie.Need-refused-requires
 refused-requires c κs = search needs
 
--- src/lib.rt:132:9
 returns : tie.Need-returns
 unfolding judge-of
 returns c =
@@ -26,17 +23,14 @@ returns c =
     let told = refused-so j (a .rank .now) 1 (v .number) (v .place) (at-loop j _ _ (loop-refused (a .rows .now) v (called .check-loop .ensures) (c .before .if1 .taken))) in
     (c .refused .ensures ∙ told .0, told .1)
 
--- src/lib.rt:134:5
 judge-sound-requires : tie.Need-judge-sound-requires
 judge-sound-requires c κs =
     let called = c .before .before .before in
     loop-sound (called .before .before .before .args .rows .now) (called .check-loop .result) (called .check-loop .ensures) (c .before .if1 .left)
 
--- src/lib.rt:126:1
 same-length : tie.Need-same-length
 same-length c = search needs
 
--- src/lib.rt:126:1
 returns-2 : tie.Need-returns-2
 returns-2 c = search needs
 

@@ -9,18 +9,15 @@ use borrow.Author.Needs.{needs}
 use Rattle.judge.proofs.judge_exclusion.Statement.{statement}
 use Rattle.judge.proofs.judge_exclusion.Tie as tie
 
--- src/lib.rt:66:9
 exclusion-requires : tie.Need-exclusion-requires
 exclusion-requires c κs =
     let s = c .before .before in
     let l = s .pre .0 in
     (rows-in _ _ _ l, n-few _ _ _ l, exclusion-long _ _ _ l is-certificate _ (s .pre .1))
 
--- src/lib.rt:67:9
 refused-requires : tie.Need-refused-requires
 refused-requires c κs = search needs
 
--- src/lib.rt:67:9
 returns : tie.Need-returns
 returns c =
     let called = c .before .before in
@@ -33,17 +30,14 @@ returns c =
     in
     (c .refused .ensures ∙ told .0, told .1)
 
--- src/lib.rt:73:52
 u16-at-requires : tie.Need-u16-at-requires
 u16-at-requires c κs =
     let s = c .before .before .before .before in
     omega (arith, exclusion-long _ _ _ (s .pre .0) is-certificate _ (s .pre .1))
 
--- src/lib.rt:73:46
 grade-requires : tie.Need-grade-requires
 grade-requires c κs = search needs
 
--- src/lib.rt:62:1
 returns-2 : tie.Need-returns-2
 returns-2 c =
     let read = c .before .u16-at in

@@ -13,11 +13,9 @@ use borrow.Author.Needs.{needs, sfits-of}
 use Rattle.judge.proofs.judge_lasso.Statement.{statement}
 use Rattle.judge.proofs.judge_lasso.Tie as tie
 
--- src/lib.rt:46:9
 refused-requires : tie.Need-refused-requires
 refused-requires c κs = search needs
 
--- src/lib.rt:46:9
 returns : tie.Need-returns
 unfolding has-rank
 returns c =
@@ -26,56 +24,45 @@ returns c =
     let told = short-list (a .rows .now) (a .n) (a .m) (s .pre .0) (a .certificate .now) (a .rank .now) lasso refl (s .pre .1) (c .before .if1 .taken) in
     (c .refused .ensures ∙ told .0, told .1)
 
--- src/lib.rt:48:9
 lasso-requires : tie.Need-lasso-requires
 lasso-requires c κs =
-    let s = c .before .before .before in
-    let a = s .args in
+    let s = c .before .before .before .before in
     let l = s .pre .0 in
-    (rows-in _ _ _ l, lasso-long _ _ _ _ l is-certificate _ (s .pre .1) (s .pre .2))
+    (rows-in _ _ _ l, lasso-long _ _ _ _ l is-certificate _ (s .pre .1) (s .pre .2), omega (arith, c .before .if1 .left))
 
--- src/lib.rt:50:9
 refused-requires-2 : tie.Need-refused-requires-2
 refused-requires-2 c κs = search needs
 
--- src/lib.rt:50:9
+same-length : tie.Need-same-length
+same-length c = search needs
+
 returns-2 : tie.Need-returns-2
 returns-2 c =
-    let called = c .before .before .before in
-    let s = called .before .before .before .before in
+    let called = c .before .before .before .before in
+    let s = called .before .before .before .before .before in
     let a = s .args in
-    let room : a .n ≤ length (a .rank .now) = omega (arith, called .before .if1 .left) in
+    let room : a .n ≤ length (a .rank .now) = omega (arith, called .before .before .if1 .left) in
     let told =
-    lasso-refused (a .rows .now) (a .n) (a .m) (s .pre .0) (a .certificate .now) (a .rank .now) (a .ms) (s .pre .1) (s .pre .2) (called .lasso .result) (called .lasso .ensures) room
+    lasso-refused (a .rows .now) (a .n) (a .m) (s .pre .0) (a .certificate .now) (a .rank .now) (a .ms) (s .pre .1) (s .pre .2) (called .lasso .result) (called .lasso .last .1 .1 .1 .1 .1 .0) (called .lasso .ensures) room
     (not-true (called .lasso .result .holds) (c .before .if2 .taken))
     in
     (c .refused2 .ensures ∙ told .0, told .1)
 
--- src/lib.rt:53:5
-put-rank-requires : tie.Need-put-rank-requires
-put-rank-requires c κs =
-    let called = c .before .before .before .before in
-    let s = called .before .before .before .before in
-    (called .lasso .ensures .long (not-false (called .lasso .result .holds) (c .before .before .if2 .left)), n-few _ _ _ (s .pre .0), omega (arith, called .before .if1 .left))
+same-length-2 : tie.Need-same-length-2
+same-length-2 c = search needs
 
--- src/lib.rt:41:1
-same-length : tie.Need-same-length
-same-length c = search needs
-
--- src/lib.rt:41:1
 returns-3 : tie.Need-returns-3
 returns-3 c =
-    let put = c .before .before in
-    let called = put .before .before .before .before .before in
-    let s = called .before .before .before .before in
+    let called = c .before .before .before .before in
+    let s = called .before .before .before .before .before in
     let a = s .args in
-    let room : a .n ≤ length (a .rank .now) = omega (arith, called .before .if1 .left) in
+    let room : a .n ≤ length (a .rank .now) = omega (arith, called .before .before .if1 .left) in
     let told =
-    lasso-accepted (a .rows .now) (a .n) (a .m) (s .pre .0) (a .certificate .now) (a .rank .now) (a .ms) (s .pre .1) (s .pre .2) (called .lasso .result) (called .lasso .ensures) room
-    (not-false (called .lasso .result .holds) (put .before .before .before .if2 .left))
+    lasso-accepted (a .rows .now) (a .n) (a .m) (s .pre .0) (a .certificate .now) (a .rank .now) (a .ms) (s .pre .1) (s .pre .2) (called .lasso .result) (called .lasso .last .1 .1 .1 .1 .1 .0) (called .lasso .ensures) room
+    (not-false (called .lasso .result .holds) (c .before .if2 .left))
     in
     let sizes = called .lasso .ok .1 .1 .1 in
-    (rw (toZ-ofZ (sfits-of (sizes .0 .1)), toZ-ofZ (sfits-of (sizes .1 .0 .1))) (told .0), put .put-rank .ensures ∙ told .1)
+    (rw (toZ-ofZ (sfits-of (sizes .0 .1)), toZ-ofZ (sfits-of (sizes .1 .0 .1))) (told .0), told .1)
 
 pub judge-lasso-spec : {M : Type 1} → statement M
 judge-lasso-spec =
@@ -85,7 +72,7 @@ judge-lasso-spec =
     returns
     lasso-requires
     refused-requires-2
-    returns-2
-    put-rank-requires
     same-length
+    returns-2
+    same-length-2
     returns-3)

@@ -13,11 +13,9 @@ use borrow.Author.Needs.{needs, sfits-of}
 use Rattle.judge.proofs.judge_ranking.Statement.{statement}
 use Rattle.judge.proofs.judge_ranking.Tie as tie
 
--- src/lib.rt:46:9
 refused-requires : tie.Need-refused-requires
 refused-requires c κs = search needs
 
--- src/lib.rt:46:9
 returns : tie.Need-returns
 unfolding has-rank
 returns c =
@@ -26,56 +24,45 @@ returns c =
     let told = short-list (a .rows .now) (a .n) (a .m) (s .pre .0) (a .certificate .now) (a .rank .now) ranking refl (s .pre .1) (c .before .if1 .taken) in
     (c .refused .ensures ∙ told .0, told .1)
 
--- src/lib.rt:48:9
 ranking-requires : tie.Need-ranking-requires
 ranking-requires c κs =
-    let s = c .before .before .before in
-    let a = s .args in
+    let s = c .before .before .before .before in
     let l = s .pre .0 in
-    (rows-in _ _ _ l, n-few _ _ _ l, m-few _ _ _ l, ranking-long _ _ _ l is-certificate _ (s .pre .1))
+    (rows-in _ _ _ l, n-few _ _ _ l, m-few _ _ _ l, ranking-long _ _ _ l is-certificate _ (s .pre .1), omega (arith, c .before .if1 .left))
 
--- src/lib.rt:50:9
 refused-requires-2 : tie.Need-refused-requires-2
 refused-requires-2 c κs = search needs
 
--- src/lib.rt:50:9
+same-length : tie.Need-same-length
+same-length c = search needs
+
 returns-2 : tie.Need-returns-2
 returns-2 c =
-    let called = c .before .before .before in
-    let s = called .before .before .before .before in
+    let called = c .before .before .before .before in
+    let s = called .before .before .before .before .before in
     let a = s .args in
-    let room : a .n ≤ length (a .rank .now) = omega (arith, called .before .if1 .left) in
+    let room : a .n ≤ length (a .rank .now) = omega (arith, called .before .before .if1 .left) in
     let told =
-    ranking-refused (a .rows .now) (a .n) (a .m) (s .pre .0) (a .certificate .now) (a .rank .now) (s .pre .1) (called .ranking .result) (called .ranking .ensures) room
+    ranking-refused (a .rows .now) (a .n) (a .m) (s .pre .0) (a .certificate .now) (a .rank .now) (s .pre .1) (called .ranking .result) (called .ranking .last .1 .1 .1 .1 .0) (called .ranking .ensures) room
     (not-true (called .ranking .result .holds) (c .before .if2 .taken))
     in
     (c .refused2 .ensures ∙ told .0, told .1)
 
--- src/lib.rt:53:5
-put-rank-requires : tie.Need-put-rank-requires
-put-rank-requires c κs =
-    let called = c .before .before .before .before in
-    let s = called .before .before .before .before in
-    (called .ranking .ensures .long (not-false (called .ranking .result .holds) (c .before .before .if2 .left)), n-few _ _ _ (s .pre .0), omega (arith, called .before .if1 .left))
+same-length-2 : tie.Need-same-length-2
+same-length-2 c = search needs
 
--- src/lib.rt:41:1
-same-length : tie.Need-same-length
-same-length c = search needs
-
--- src/lib.rt:41:1
 returns-3 : tie.Need-returns-3
 returns-3 c =
-    let put = c .before .before in
-    let called = put .before .before .before .before .before in
-    let s = called .before .before .before .before in
+    let called = c .before .before .before .before in
+    let s = called .before .before .before .before .before in
     let a = s .args in
-    let room : a .n ≤ length (a .rank .now) = omega (arith, called .before .if1 .left) in
+    let room : a .n ≤ length (a .rank .now) = omega (arith, called .before .before .if1 .left) in
     let told =
-    ranking-accepted (a .rows .now) (a .n) (a .m) (s .pre .0) (a .certificate .now) (a .rank .now) (s .pre .1) (called .ranking .result) (called .ranking .ensures) room
-    (not-false (called .ranking .result .holds) (put .before .before .before .if2 .left))
+    ranking-accepted (a .rows .now) (a .n) (a .m) (s .pre .0) (a .certificate .now) (a .rank .now) (s .pre .1) (called .ranking .result) (called .ranking .last .1 .1 .1 .1 .0) (called .ranking .ensures) room
+    (not-false (called .ranking .result .holds) (c .before .if2 .left))
     in
     let sizes = called .ranking .ok .1 .1 .1 in
-    (rw (toZ-ofZ (sfits-of (sizes .0 .1)), toZ-ofZ (sfits-of (sizes .1 .0 .1))) (told .0), put .put-rank .ensures ∙ told .1)
+    (rw (toZ-ofZ (sfits-of (sizes .0 .1)), toZ-ofZ (sfits-of (sizes .1 .0 .1))) (told .0), told .1)
 
 pub judge-ranking-spec : {M : Type 1} → statement M
 judge-ranking-spec =
@@ -85,7 +72,7 @@ judge-ranking-spec =
     returns
     ranking-requires
     refused-requires-2
-    returns-2
-    put-rank-requires
     same-length
+    returns-2
+    same-length-2
     returns-3)

@@ -1,11 +1,11 @@
--- `conditions::ranked_column` meets its contract: each total is the lifted one less the lift. Assumes nothing.
+-- `conditions::one_column` meets its contract: each total is the lifted one less the lift. Assumes nothing.
 use Prim.Native.Nat.{_+_}
 use native.Mathlib.Omega.{arith}
 use mir.Facts.{toZ-ofZ}
-use Rattle.conditions.proofs.Totals.{passed-grows, entry-by}
+use Rattle.conditions.proofs.Totals.{passed-grows, column-decided}
 use borrow.Author.Needs.{needs}
-use Rattle.conditions.proofs.ranked_column.Statement.{statement}
-use Rattle.conditions.proofs.ranked_column.Tie as tie
+use Rattle.conditions.proofs.one_column.Statement.{statement}
+use Rattle.conditions.proofs.one_column.Tie as tie
 
 unlifted-requires : tie.Need-unlifted-requires
 unlifted-requires c κs = (omega arith, c .pre .4 (c .args .j) (omega arith), rw (toZ-ofZ (c .fits .ylift)) (c .pre .6))
@@ -50,12 +50,12 @@ returns c =
       ← rw (toZ-ofZ (s .fits .zlift)) at (za .ensures .0),
       ← rw (toZ-ofZ (s .fits .zlift)) at (za2 .ensures .0),
     )
-    (entry-by (c .column-holds .result) (ya .result) (ya2 .result) (za .result) (za2 .result)
+    (column-decided (c .column-holds .result) (ya .result) (ya2 .result) (za .result) (za2 .result)
     (omega (arith, ya .ensures .1)) (omega (arith, ya2 .ensures .1)) (omega (arith, za .ensures .1)) (omega (arith, za2 .ensures .1))
     (c .column-holds .ensures))
 
-pub ranked-column-spec : {M : Type 1} → statement M
-ranked-column-spec =
+pub one-column-spec : {M : Type 1} → statement M
+one-column-spec =
     tie.close
     (tie.spec
     unlifted-requires
