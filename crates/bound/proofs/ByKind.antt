@@ -11,7 +11,7 @@ use lib.Signed.{leZ, _<ℤ_}
 use Rattle.whole.specs.Sums.{dot, sum, Within}
 use Rattle.whole.proofs.Compare.{true-le}
 use Rattle.whole.proofs.Solve.{v, neg, solve-lt, lt-fact}
-use Rattle.record.specs.Layouts.{Kind, ranking, lasso, is-loop, is-lasso}
+use Rattle.record.specs.Layouts.{Kind, ranking, lasso, is-loop, is-lasso, has-rank}
 use Rattle.record.specs.Readers.{counts-read}
 use Rattle.refusal.specs.Tests.{refused, first}
 use Rattle.refusal.proofs.TestLaws.{either, failed}
@@ -24,7 +24,7 @@ use Rattle.conditions.specs.Held.{loop-held, ranking-held, lasso-held}
 use Rattle.conditions.specs.declared.Ranked.{Ranked}
 use Rattle.verdict.specs.Bounding.{Bounding, invariant, bounds, bound-of}
 use Rattle.verdict.specs.Contents.{loop-in, ranking-in, lasso-in}
-use Rattle.verdict.specs.Pairs.{loop-record, certificate-record, kind-of, variables-of, has-rank}
+use Rattle.verdict.specs.Pairs.{loop-record, certificate-record, kind-of, variables-of}
 use Rattle.verdict.specs.declared.Bounded.{Bounded}
 use Rattle.verdict.specs.declared.Outcome.the-variants.{Ranking, Lasso}
 use Rattle.verdict.proofs.Accepted.{Both-sound, shows, ranking-conditions, lasso-conditions}

@@ -13,11 +13,10 @@ use Rattle.endian.specs.Numbers.{littleAt}
 use Rattle.refusal.specs.Tests.{Told, done, refused, Test, _at_unless_, first, number as number-of}
 use Rattle.refusal.proofs.TestLaws.{either, passed, failed, done-passes, zero-done, both-true}
 use Rattle.record.specs.Fields.{width, number, values, in-range}
-use Rattle.record.specs.Layouts.{Kind, loop, ranking, exclusion, lasso, other, kindOf, is-loop, is-lasso, is-certificate, variable-count, row-count, counts}
+use Rattle.record.specs.Layouts.{Kind, loop, ranking, exclusion, lasso, other, kindOf, is-loop, is-lasso, is-certificate, has-rank, variable-count, row-count, counts}
 use Rattle.record.specs.Ranges.{variables, rows, within}
 use Rattle.record.specs.Readers.{Reader, stated-length, kind-number, kind, counts-read, fields, list-start, count-list, list, arguments-fit, sound, loop-reader, certificate-reader}
 use Rattle.record.proofs.ReadThenWrite.{Sound, sound-says}
-use Rattle.verdict.specs.Pairs.{has-rank}
 use Rattle.runs.proofs.Fits.{variables-most, rows-most, arguments-most}
 use Rattle.checking.specs.declared.Checked.{Checked}
 use Rattle.checking.specs.Checks.{checked, checks, ranked-reader}

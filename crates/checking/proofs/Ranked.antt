@@ -3,11 +3,10 @@ use mathlib.Core.Path.{_≡_, refl}
 use Prim.Native.Nat.{ℕ}
 use mathlib.Core.Bool.{false}
 use mathlib.Core.List.{List, []}
-use Rattle.record.specs.Layouts.{kindOf}
+use Rattle.record.specs.Layouts.{kindOf, has-rank}
 use Rattle.record.specs.Readers.{loop-reader, stated-length, sound}
 use Rattle.refusal.specs.Tests.{first}
 use Rattle.runs.proofs.ByKind.{by-kind}
-use Rattle.verdict.specs.Pairs.{has-rank}
 use Rattle.checking.specs.Checks.{framing, ranked-reader}
 
 pub ranked-frame : (bytes : List ℕ) (n m : ℕ) → first framing (loop-reader bytes []) ≡ first framing (ranked-reader bytes n m)

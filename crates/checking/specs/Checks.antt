@@ -8,8 +8,8 @@ use lib.Dec.{ltb}
 use lib.ListN.{length, take}
 use Rattle.endian.specs.Numbers.{littleAt}
 use Rattle.refusal.specs.Tests.{Told, done, refused, Test, first}
+use Rattle.record.specs.Layouts.{has-rank}
 use Rattle.record.specs.Readers.{Reader, kind-number, counts-read, sound}
-use Rattle.verdict.specs.Pairs.{has-rank}
 use Rattle.checking.specs.declared.Checked.{Checked}
 
 -- a refusal: all but number and place are 0

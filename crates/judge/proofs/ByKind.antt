@@ -6,7 +6,7 @@ use mathlib.Core.List.{List}
 use lib.IntN.{ℤ}
 use lib.ListN.{length}
 use Rattle.endian.specs.Numbers.{littleAt}
-use Rattle.record.specs.Layouts.{Kind, ranking, exclusion, lasso, is-loop, is-certificate}
+use Rattle.record.specs.Layouts.{Kind, ranking, exclusion, lasso, is-loop, is-certificate, has-rank}
 use Rattle.record.specs.Readers.{counts-read}
 use Rattle.theory.specs.Exclusions.{ExclusionHolds}
 use Rattle.conditions.specs.Decided.{Decides, RankedBy, LassoBy}
@@ -15,7 +15,7 @@ use Rattle.conditions.specs.declared.Ranked.{Ranked}
 use Rattle.verdict.specs.Contents.{loop-in, ranking-in, exclusion-in, lasso-in}
 use Rattle.verdict.specs.Judging.{Judging, judges, rank-after, judge-of}
 use Rattle.verdict.specs.Outcomes.{grade-of}
-use Rattle.verdict.specs.Pairs.{loop-record, certificate-record, kind-of, variables-of, has-rank}
+use Rattle.verdict.specs.Pairs.{loop-record, certificate-record, kind-of, variables-of}
 use Rattle.verdict.specs.declared.Outcome.the-variants.{Ranking, Exclusion, Lasso}
 use Rattle.verdict.proofs.Accepted.{Both-sound, shows, room-there, no-room-needed, ranking-conditions, exclusion-conditions, lasso-conditions, accepted-exactly-when-ranking, accepted-exactly-when-exclusion, accepted-exactly-when-lasso, ranking-answers, exclusion-answers, lasso-answers}
 use Rattle.judge.specs.Told.{LoopSound, CertificateSound, refusal-of}

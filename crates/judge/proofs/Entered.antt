@@ -3,14 +3,14 @@ use mathlib.Core.Path.{_≡_, refl, sym, ap, _∙_}
 use Prim.Native.Nat.{ℕ}
 use mathlib.Core.Bool.{Bool, true}
 use mathlib.Core.List.{List, []}
-use Rattle.record.specs.Layouts.{Kind, lasso, kindOf, is-certificate}
+use Rattle.record.specs.Layouts.{Kind, lasso, kindOf, is-certificate, has-rank}
 use Rattle.record.specs.Readers.{Reader, kind, kind-number, counts-read, sound, loop-reader}
 use Rattle.refusal.specs.Tests.{done, refused, first}
 use Rattle.runs.proofs.ByKind.{by-kind}
 use Rattle.checking.specs.Checks.{checked, checks}
 use Rattle.checking.specs.declared.Checked.{Checked}
 use Rattle.checking.proofs.Answers as Answers
-use Rattle.verdict.specs.Pairs.{loop-record, certificate-record, has-rank}
+use Rattle.verdict.specs.Pairs.{loop-record, certificate-record}
 use Rattle.judge.specs.Told.{LoopSound, CertificateSound}
 use Rattle.judge.proofs.Sizes.{says}
 

@@ -5,11 +5,12 @@ use mathlib.Core.Bool.{true}
 use mathlib.Core.List.{List}
 use lib.IntN.{ℤ}
 use borrow.Author.Tests.{lt-leb}
+use Rattle.record.specs.Layouts.{has-rank}
 use Rattle.record.specs.Readers.{sound}
 use Rattle.refusal.specs.Tests.{Told, done, refused, first}
 use Rattle.refusal.proofs.TestLaws.{failed}
 use Rattle.verdict.specs.Judging.{Judging, rank-room, judging, judges, ranks, rank-after}
-use Rattle.verdict.specs.Pairs.{Pair, kind-of, variables-of, folded, conditions, has-rank}
+use Rattle.verdict.specs.Pairs.{Pair, kind-of, variables-of, folded, conditions}
 use Rattle.verdict.specs.Stages.{refusal, said, verdict-of}
 use Rattle.verdict.proofs.StageLaws.{stage-done, stage-refused}
 use Rattle.judge.specs.Told.{refusal-of}

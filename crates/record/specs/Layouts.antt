@@ -39,6 +39,14 @@ is-certificate exclusion = true
 is-certificate lasso = true
 is-certificate other = false
 
+-- the kinds whose certificates show a rank
+unfoldable pub has-rank : Kind → Bool
+has-rank loop = false
+has-rank ranking = true
+has-rank exclusion = false
+has-rank lasso = true
+has-rank other = false
+
 -- how many variables, loop rows and stem rows a record has or goes with
 pub record Counts : Type 0 where
   pub n : ℕ

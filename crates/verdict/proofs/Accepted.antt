@@ -9,7 +9,7 @@ use native.Mathlib.Omega.{arith}
 use lib.IntN.{ℤ}
 use lib.ListN.{drop}
 use borrow.Author.Tests.{leb-true, le-leb}
-use Rattle.record.specs.Layouts.{ranking, exclusion, lasso, is-lasso}
+use Rattle.record.specs.Layouts.{ranking, exclusion, lasso, is-lasso, has-rank}
 use Rattle.record.specs.Readers.{sound}
 use Rattle.refusal.specs.Tests.{Told, done, refused, number, first}
 use Rattle.refusal.proofs.TestLaws.{passes-done, done-passes, zero-done}
@@ -21,7 +21,7 @@ use Rattle.whole.proofs.Tables.{length-tabulate}
 use Rattle.verdict.specs.Contents.{loop-in, ranking-in, exclusion-in, lasso-in}
 use Rattle.verdict.specs.Judging.{Judging, rank-room, judging, judges, ranks, rank-after}
 use Rattle.verdict.specs.Outcomes.{grade-of}
-use Rattle.verdict.specs.Pairs.{Pair, kind-of, variables-of, folded, conditions-told, conditions, ranked-loop, ranking-of, rank-of, start-of, fall-of, outcome-of, has-rank}
+use Rattle.verdict.specs.Pairs.{Pair, kind-of, variables-of, folded, conditions-told, conditions, ranked-loop, ranking-of, rank-of, start-of, fall-of, outcome-of}
 use Rattle.verdict.specs.declared.Verdict.{Verdict}
 use Rattle.verdict.specs.declared.Outcome.{Outcome}
 use Rattle.verdict.specs.declared.Outcome.the-variants.{Ranking, Exclusion, Lasso}

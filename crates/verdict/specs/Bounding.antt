@@ -7,14 +7,14 @@ use lib.Dec.{eqb}
 use lib.IntN.{ℤ, pos, _+ℤ_}
 use lib.ListN.{length}
 use lib.Signed.{leZ}
-use Rattle.record.specs.Layouts.{is-lasso}
+use Rattle.record.specs.Layouts.{is-lasso, has-rank}
 use Rattle.record.specs.Ranges.{state-entries, within}
 use Rattle.record.specs.Readers.{sound}
 use Rattle.refusal.specs.Tests.{Test, _at_unless_, first}
 use Rattle.theory.specs.Rankings as Rankings
 use Rattle.whole.specs.Sums.{dot}
 use Rattle.verdict.specs.Contents.{lasso-in}
-use Rattle.verdict.specs.Pairs.{loop-record, certificate-record, Pair, kind-of, variables-of, conditions, rank-of, start-of, fall-of, outcome-of, has-rank}
+use Rattle.verdict.specs.Pairs.{loop-record, certificate-record, Pair, kind-of, variables-of, conditions, rank-of, start-of, fall-of, outcome-of}
 use Rattle.verdict.specs.Stages.{Said, agreed, refusal, Stage, _says_, said, verdict-of}
 use Rattle.verdict.specs.declared.Bounded.{Bounded}
 use Rattle.verdict.specs.declared.Outcome.{Outcome}

@@ -6,11 +6,11 @@ use mathlib.Core.List.{List, [], _∷_, _++_}
 use lib.Dec.{leb}
 use lib.IntN.{ℤ}
 use lib.ListN.{length, drop}
-use Rattle.record.specs.Layouts.{is-certificate}
+use Rattle.record.specs.Layouts.{is-certificate, has-rank}
 use Rattle.record.specs.Readers.{sound}
 use Rattle.refusal.specs.Tests.{Test, _at_unless_, first}
 use Rattle.theory.specs.Conditions.{ranked}
-use Rattle.verdict.specs.Pairs.{loop-record, certificate-record, Pair, kind-of, variables-of, conditions, rank-of, outcome-of, has-rank}
+use Rattle.verdict.specs.Pairs.{loop-record, certificate-record, Pair, kind-of, variables-of, conditions, rank-of, outcome-of}
 use Rattle.verdict.specs.Stages.{Said, agreed, refusal, Stage, _says_, said, verdict-of}
 use Rattle.verdict.specs.declared.Verdict.{Verdict}
 

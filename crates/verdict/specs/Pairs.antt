@@ -1,7 +1,7 @@
 -- The two records that a judge gets: when each is sound, the conditions of the certificate's kind over the loop that the bytes hold,
 -- and what the certificate then shows.
 use Prim.Native.Nat.{ℕ}
-use mathlib.Core.Bool.{Bool, true, false, cond}
+use mathlib.Core.Bool.{Bool, cond}
 use mathlib.Core.List.{List}
 use lib.IntN.{ℤ}
 use Rattle.record.specs.Layouts.{Kind, loop, ranking, exclusion, lasso, other, is-loop, is-lasso}
@@ -79,11 +79,3 @@ outcome-of ranking p = Ranking (start-of p) (fall-of p)
 outcome-of exclusion p = Exclusion (grade-of (exclusion-in (p .certificate-is) .q))
 outcome-of lasso p = Lasso (start-of p) (fall-of p)
 outcome-of other p = Nothing
-
--- kinds 2 and 4 have a rank
-unfoldable pub has-rank : Kind → Bool
-has-rank loop = false
-has-rank ranking = true
-has-rank exclusion = false
-has-rank lasso = true
-has-rank other = false

@@ -5,7 +5,7 @@ use lib.IntN.{pos}
 use lib.ListN.{replicate}
 use borrow.Author.Tests.{not-true, not-false}
 use mir.Facts.{toZ-ofZ}
-use Rattle.verdict.specs.Pairs.{has-rank}
+use Rattle.record.specs.Layouts.{has-rank}
 use Rattle.judge.proofs.Sizes.{n-few, rows-in, lasso-long}
 use Rattle.bound.proofs.ByKind.{state-small, lasso-refused, lasso-outside, lasso-ready, lasso-bounded}
 use borrow.Author.Needs.{needs, sfits-of}

@@ -4,7 +4,7 @@ use lib.IntN.{pos}
 use lib.ListN.{replicate}
 use borrow.Author.Tests.{not-true, not-false}
 use mir.Facts.{toZ-ofZ}
-use Rattle.verdict.specs.Pairs.{has-rank}
+use Rattle.record.specs.Layouts.{has-rank}
 use Rattle.judge.proofs.Sizes.{n-few, m-few, rows-in, ranking-long}
 use Rattle.bound.proofs.ByKind.{ranking-refused, ranking-ready, ranking-bounded}
 use borrow.Author.Needs.{needs, sfits-of}

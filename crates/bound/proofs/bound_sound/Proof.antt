@@ -1,10 +1,10 @@
 -- `bound::bound_sound` meets its contract: the certificate is checked, then the state; the kind leads to the conditions. Assumes nothing.
 use mathlib.Core.Path.{sym, ap, _∙_}
-use Rattle.record.specs.Layouts.{ranking, lasso, kindOf}
+use Rattle.record.specs.Layouts.{ranking, lasso, kindOf, has-rank}
 use Rattle.checking.specs.Checks.{ranked-reader}
 use lib.ListN.{length}
 use Rattle.verdict.specs.Bounding.{before-outside, bound-of}
-use Rattle.verdict.specs.Pairs.{variables-of, has-rank}
+use Rattle.verdict.specs.Pairs.{variables-of}
 use Rattle.bound.specs.Told.{refusal-of, StateFits}
 use Rattle.judge.proofs.Entered.{last-ranked, certificate-refused, certificate-told, ms-told, kind-wanted, sound-as}
 use Rattle.bound.proofs.Ways.{refused-so, at-certificate, at-count, at-outside}

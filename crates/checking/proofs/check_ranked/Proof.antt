@@ -1,9 +1,8 @@
 -- `checking::check_ranked` meets its contract. Assumes nothing.
 use mathlib.Core.Path.{sym, ap, _∙_}
 use mathlib.Core.List.{[]}
-use Rattle.record.specs.Layouts.{kindOf, is-certificate}
+use Rattle.record.specs.Layouts.{kindOf, is-certificate, has-rank}
 use Rattle.record.specs.Readers.{loop-reader, kind, kind-number}
-use Rattle.verdict.specs.Pairs.{has-rank}
 use Rattle.checking.specs.Checks.{framed, Framed, ranked-reader}
 use Rattle.checking.proofs.Answers.{ranked-too}
 use Rattle.checking.proofs.Ways.{frame-refuses, frame-passes, unwanted}

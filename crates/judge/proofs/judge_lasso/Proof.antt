@@ -5,8 +5,7 @@ use native.Mathlib.Omega.{arith}
 use mir.Facts.{toZ-ofZ}
 use lib.ListN.{length}
 use borrow.Author.Tests.{not-true, not-false}
-use Rattle.record.specs.Layouts.{lasso, is-certificate}
-use Rattle.verdict.specs.Pairs.{has-rank}
+use Rattle.record.specs.Layouts.{lasso, is-certificate, has-rank}
 use Rattle.judge.proofs.ByKind.{short-list, lasso-refused, lasso-accepted}
 use Rattle.judge.proofs.Sizes.{n-few, rows-in, lasso-long}
 use borrow.Author.Needs.{needs, sfits-of}

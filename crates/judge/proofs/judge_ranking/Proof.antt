@@ -5,8 +5,7 @@ use native.Mathlib.Omega.{arith}
 use mir.Facts.{toZ-ofZ}
 use lib.ListN.{length}
 use borrow.Author.Tests.{not-true, not-false}
-use Rattle.record.specs.Layouts.{ranking, is-certificate}
-use Rattle.verdict.specs.Pairs.{has-rank}
+use Rattle.record.specs.Layouts.{ranking, is-certificate, has-rank}
 use Rattle.judge.proofs.ByKind.{short-list, ranking-refused, ranking-accepted}
 use Rattle.judge.proofs.Sizes.{n-few, m-few, rows-in, ranking-long}
 use borrow.Author.Needs.{needs, sfits-of}
