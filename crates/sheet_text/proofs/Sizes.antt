@@ -1,33 +1,21 @@
--- How large the numbers of a verdict are, whatever the bytes: a refusal's number has one digit and its place lies within the record; the entries of an
--- accepted rank are below 10 ^ 12 and its start and fall below 10 ^ 13, whatever their sign. Assumes nothing.
+-- How large the numbers of a refusal are, whatever the bytes: its number has one digit and its place lies within the record. How large those of an accepted
+-- rank are is `Ranking-sums-fit` of crate `verdict`. Assumes nothing.
 use mathlib.Core.Path.{_≡_}
-use Prim.Native.Nat.{ℕ, zero, suc, _+_, _*_, _^_, _≤_, _<_}
+use Prim.Native.Nat.{ℕ, _+_, _≤_, _<_}
 use mathlib.Core.Bool.{Bool, true, false, _||_}
 use mathlib.Core.List.{List, [], _∷_}
-use native.Mathlib.Nat.{mul-le-mul-right}
 use native.Mathlib.Omega.{arith}
-use lib.IntN.{ℤ, pos, natAbs}
-use lib.ListN.{length, replicate}
+use lib.IntN.{ℤ}
+use lib.ListN.{length}
 use borrow.Author.Tests.{leb-true, leb-false, eqb-true}
-use Rattle.whole.specs.Rows.{Row}
-use Rattle.whole.specs.Sums.{sum, Each, Within}
-use Rattle.whole.proofs.Size.{abs-neg}
-use Rattle.whole.proofs.Solve.{v, neg, solve-abs, le-fact}
-use Rattle.whole.proofs.SumLaws.{sum-bound}
-use Rattle.whole.proofs.Tables.{each-tabulate}
-use Rattle.record.specs.Contents.{In, List-in, Row-in}
 use Rattle.record.specs.Fields.{Field, width, widths, before-fault}
 use Rattle.record.specs.Layouts.{Kind, is-loop, is-certificate, counts, lengthOf, listed}
-use Rattle.record.specs.Ranges.{_to_, either-way, entries, right-sides, multipliers, within}
+use Rattle.record.specs.Ranges.{within}
 use Rattle.record.specs.Readers as R
 use Rattle.record.specs.Readers.{Reader, sound}
 use Rattle.record.proofs.Lengths.{length-law}
 use Rattle.refusal.specs.Tests.{Told, done, refused, Test, _at_unless_, first}
 use Rattle.refusal.proofs.TestLaws.{either, passed, failed}
-use Rattle.theory.specs.Loops.{Loop, A′, b}
-use Rattle.theory.specs.Rankings.{Ranking, rank, start, fall}
-
--- ---- refusals
 
 -- what is told has one digit and a place of at most `size`
 abbrev pub Small-told : ℕ → Told → Type 0
@@ -106,75 +94,3 @@ sound-told r known =
         ),
       ),
     )
-
--- ---- ranks
-
-either-size : (most : ℕ) (z : ℤ) → In (either-way most) z → natAbs z ≤ most
-unfolding either-way
-either-size most z h = solve-abs (v z) most (omega (arith, le-fact (neg (v (pos most))) (v z) (h .least), le-fact (v z) (v (pos most)) (h .most)))
-
-multiplier-size : (z : ℤ) → In multipliers z → natAbs z ≤ 60_000
-unfolding multipliers _to_
-multiplier-size z h = solve-abs (v z) 60_000 (omega (arith, le-fact (v (pos 0)) (v z) (h .least), le-fact (v z) (v (pos 60_000)) (h .most)))
-
--- what holds of each entry holds of those past the end, which are 0
-within-each : (most : ℕ) (zs : List ℤ) → Each (λ z. natAbs z ≤ most) zs → Within most zs
-unfolding Each
-within-each most [] small i = omega arith
-within-each most (z ∷ zs) small zero = small .0
-within-each most (z ∷ zs) small (suc i) = within-each most zs (small .1) i
-
-pub each-map : {B : Type 0} {P Q : B → Type 0} (bs : List B) → ((b : B) → P b → Q b) → Each P bs → Each Q bs
-unfolding Each
-each-map [] f all = tt
-each-map (b ∷ bs) f all = (f b (all .0), each-map bs f (all .1))
-
--- a row whose A′ and b are within the limits
-pub record Small-row (row : Row) : Type 0 where
-  pub next : Within 30_000 (row .next)
-  pub right : natAbs (row .right) ≤ 1_000_000
-
-pub row-small : (n : ℕ) (row : Row) → Row-in n row → Small-row row
-unfolding entries right-sides
-row-small n row h =
-    record {
-      next = within-each 30_000 (row .next) (each-map (row .next) (either-size 30_000) (h .next-in .each));
-      right = either-size 1_000_000 (row .right) (h .right-in);
-    }
-
--- the row that a lasso adds has no A′
-pub added-small : (n : ℕ) (now : List ℤ) (right : ℤ) → In right-sides right → Small-row (record { now = now; next = replicate n (pos 0); right = right })
-unfolding right-sides Each
-added-small n now right h = record { next = within-each 30_000 (replicate n (pos 0)) (zeros n); right = either-size 1_000_000 right h }
-  where
-    zeros : (n : ℕ) → Each (λ z. natAbs z ≤ 30_000) (replicate n (pos 0))
-    zeros zero = tt
-    zeros (suc n) = (omega arith, zeros n)
-
--- at most 65 multipliers
-pub record Small-weights (ys : List ℤ) : Type 0 where
-  pub counted : length ys ≤ 65
-  pub sized : Within 60_000 ys
-
-pub weights-small : (n : ℕ) (ys : List ℤ) → n ≤ 65 → List-in multipliers n ys → Small-weights ys
-weights-small n ys few h = record { counted = omega (arith, h .counted); sized = within-each 60_000 ys (each-map ys multiplier-size (h .each)) }
-
--- r, start and fall of small rows under small weights
-pub record Small-rank (r : List ℤ) (δ0 δ : ℤ) : Type 0 where
-  pub rank-small : Each (λ z. natAbs z < 10 ^ 12) r
-  pub start-small : natAbs δ0 < 10 ^ 13
-  pub fall-small : natAbs δ < 10 ^ 13
-
-sum-small : (ys : List ℤ) (rows : List Row) (f : Row → ℤ) (most : ℕ) → Small-weights ys → Each (λ row. natAbs (f row) ≤ most) rows → natAbs (sum ys f rows) ≤ 65 * (60_000 * most)
-sum-small ys rows f most w small = omega (arith, sum-bound 60_000 most ys f rows (w .sized) small, mul-le-mul-right (60_000 * most) (w .counted))
-
-pub rank-sizes : (loop : Loop) (c : Ranking) → Each Small-row (loop .rows) → Small-weights (c .Y) → Small-weights (c .Z) → Small-rank (rank loop c) (start loop c) (fall loop c)
-unfolding rank start fall
-rank-sizes loop c small Y Z =
-    record {
-      rank-small =
-          each-tabulate (λ z. natAbs z < 10 ^ 12) (loop .variables) (λ j. sum (c .Z) (A′ j) (loop .rows))
-          (λ j below. omega (arith, sum-small (c .Z) (loop .rows) (A′ j) 30_000 Z (each-map (loop .rows) (λ row s. s .next j) small)));
-      start-small = rw abs-neg (omega (arith, sum-small (c .Y) (loop .rows) b 1_000_000 Y (each-map (loop .rows) (λ row s. s .right) small)));
-      fall-small = rw abs-neg (omega (arith, sum-small (c .Z) (loop .rows) b 1_000_000 Z (each-map (loop .rows) (λ row s. s .right) small)));
-    }

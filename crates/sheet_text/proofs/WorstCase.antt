@@ -6,25 +6,21 @@ use mathlib.Core.Bool.{true, _||_, false≢true}
 use mathlib.Core.List.{List, [], _∷_, _++_}
 use native.Mathlib.Decide.{decLt}
 use native.Mathlib.Omega.{arith}
-use lib.IntN.{ℤ, pos, natAbs}
+use lib.IntN.{ℤ, natAbs}
 use lib.ListN.{length, take, drop, length-append, length-drop}
 use lib.Seq.{take-at}
-use Rattle.whole.specs.Sums.{Each}
-use Rattle.whole.proofs.EachLaws.{each-append}
-use Rattle.whole.proofs.Solve.{v, le-fact}
-use Rattle.whole.proofs.Tables.{length-tabulate}
+use Rattle.whole.specs.Sums.{Within}
 use Rattle.decimal.specs.Decimals.{decimal, signed-decimal}
 use Rattle.decimal.proofs.DecimalLaws.{decimal-length, signed-length}
 use Rattle.record.specs.Layouts.{Kind, loop, ranking, exclusion, lasso, other, is-loop, is-certificate}
-use Rattle.record.specs.Ranges.{_to_, variables, rows}
 use Rattle.record.specs.Readers as R
 use Rattle.record.specs.Readers.{Reader, sound}
 use Rattle.record.proofs.ReadThenWrite.{Sound, sound-says}
 use Rattle.refusal.specs.Tests.{Told, done, refused, first}
 use Rattle.refusal.proofs.TestLaws.{done-passes}
-use Rattle.theory.specs.Lassos as Lassos
+use Rattle.theory.specs.Loops.{Loop}
 use Rattle.theory.specs.Rankings as Rankings
-use Rattle.verdict.specs.Contents.{loop-in, ranking-in, lasso-in, parts}
+use Rattle.verdict.specs.Contents.{loop-in}
 use Rattle.verdict.specs.Judging.{Judging, rank-room, judging, judges, rank-after, judge-of}
 use Rattle.verdict.specs.Pairs.{loop-record, certificate-record, kind-of, variables-of, folded, conditions}
 use Rattle.verdict.specs.Stages.{Said, agreed, refusal, Stage, _says_, said, verdict-of}
@@ -33,8 +29,10 @@ use Rattle.verdict.specs.declared.Outcome.{Outcome}
 use Rattle.verdict.specs.declared.Outcome.the-variants.{Nothing, Ranking, Exclusion, Lasso}
 use Rattle.verdict.specs.declared.Verdict.{Verdict}
 use Rattle.verdict.proofs.Accepted.{accepts-agrees, ranking-answers, lasso-answers, exclusion-answers}
-use Rattle.verdict.proofs.Parts.{counts-in, loop-parts, ranking-parts, lasso-parts}
+use Rattle.verdict.proofs.Demands.{same-counts}
 use Rattle.verdict.proofs.StageLaws.{by-told, stage-done, stage-refused}
+use Rattle.verdict.proofs.SumsFit.{Ranking-sums-fit, rank-length}
+use Rattle.verdict.proofs.SumsFitInBytes.{loop-small, ranking-sums-fit, lasso-sums-fit-in}
 use Rattle.sheet_lines.specs.Words.{bytes, line, run}
 use Rattle.sheet_text.specs.Parting.{taken, first-record, after-first, records}
 use Rattle.sheet_lines.specs.VerdictLines.{outcome-words, verdict-line}
@@ -42,7 +40,7 @@ use Rattle.sheet_text.specs.Sheets.{lent, variables-in, rows-in, certifi
 use Rattle.sheet_lines.proofs.LineLaws.{line-loop, entries, nothing-line, ranking-line, lasso-line, whole-exclusion-line, fractions-exclusion-line, line-refused, length-pair, length-rank, length-count}
 use Rattle.sheet_text.proofs.PartingLaws.{taken-all-or-six, first-length, rest-length, nothing-left, no-bytes, fewer}
 use Rattle.sheet_text.proofs.TextLaws.{text-judged, text-too-long, lines-none, lines-more}
-use Rattle.sheet_text.proofs.Sizes.{Small-told, first-small, sound-told, each-map, Small-row, row-small, added-small, weights-small, Small-rank, rank-sizes}
+use Rattle.sheet_text.proofs.Sizes.{Small-told, first-small, sound-told}
 
 -- ---- the line of a verdict whose numbers are small
 
@@ -50,30 +48,32 @@ pub record Small-refusal (number place : ℕ) : Type 0 where
   pub one-digit : number < 10
   pub near : place ≤ 65_536
 
--- at most 16 entries
-pub record Few (r : List ℤ) (start fall : ℤ) : Type 0 where
+-- at most 16 entries of at most 12 digits, a start and a fall of at most 13
+pub record Small-rank (r : List ℤ) (start fall : ℤ) : Type 0 where
   pub sixteen : length r ≤ 16
-  pub small : Small-rank r start fall
+  pub rank-within : Within 117_000_000_000 r
+  pub start-within : natAbs start ≤ 3_900_000_000_000
+  pub fall-within : natAbs fall ≤ 3_900_000_000_000
 
 abbrev pub Small-verdict : Outcome → ℕ → ℕ → List ℤ → Type 0
 Small-verdict Nothing number place r = Small-refusal number place
-Small-verdict (Ranking start fall) number place r = Few r start fall
+Small-verdict (Ranking start fall) number place r = Small-rank r start fall
 Small-verdict (Exclusion grade) number place r = Unit {0}
-Small-verdict (Lasso start fall) number place r = Few r start fall
+Small-verdict (Lasso start fall) number place r = Small-rank r start fall
 
-entries-size : (r : List ℤ) → Each (λ z. natAbs z < 10 ^ 12) r → length (entries r) ≤ 14 * length r
-unfolding Each run bytes
+entries-size : (r : List ℤ) → Within 117_000_000_000 r → length (entries r) ≤ 14 * length r
+unfolding run bytes
 entries-size [] small = omega arith
-entries-size (z ∷ r) small = simp length-append (omega (arith, signed-length 11 z (small .0), entries-size r (small .1)))
+entries-size (z ∷ r) small = simp length-append (omega (arith, signed-length 11 z (omega (arith, small 0)), entries-size r (λ i. small (suc i))))
 
-rank-size : (r : List ℤ) (start fall : ℤ) → Few r start fall → length (entries r) + (5 + (length (signed-decimal start) + 1) + (5 + (length (signed-decimal fall) + 1))) ≤ 264
-rank-size r start fall few =
+rank-size : (r : List ℤ) (start fall : ℤ) → Small-rank r start fall → length (entries r) + (5 + (length (signed-decimal start) + 1) + (5 + (length (signed-decimal fall) + 1))) ≤ 264
+rank-size r start fall small =
     omega (
       arith,
-      few .sixteen,
-      entries-size r (few .small .rank-small),
-      signed-length 12 start (few .small .start-small),
-      signed-length 12 fall (few .small .fall-small),
+      small .sixteen,
+      entries-size r (small .rank-within),
+      signed-length 12 start (omega (arith, small .start-within)),
+      signed-length 12 fall (omega (arith, small .fall-within)),
     )
 
 refusal-size : (number place : ℕ) → Small-refusal number place → length (line (bytes "refused" ∷ decimal number ∷ decimal place ∷ [])) ≤ 16
@@ -150,24 +150,20 @@ is-loop-kind other e = cc
 
 -- a loop whose bytes are sound
 module _ (l : List ℕ) (loop-sound : first sound (loop-record l) ≡ done) where
-  loop-wanted : is-loop (R.kind (loop-record l)) ≡ true
+  loop-is-sound : Sound (loop-record l)
+  loop-is-sound = is-sound (loop-record l) loop-sound
+
+  loop-kind : R.kind (loop-record l) ≡ loop
   unfolding loop-record
-  loop-wanted = is-sound (loop-record l) loop-sound .wanted
+  loop-kind = is-loop-kind _ (loop-is-sound .wanted)
 
   pub few-variables : variables-in l ≤ 16
-  unfolding variables-in variables _to_
-  few-variables =
-      let c = counts-in (loop-record l) (is-sound (loop-record l) loop-sound) (loop-known _ loop-wanted) in
-      omega (arith, le-fact (v (pos (R.counts-read (loop-record l) .n))) (v (pos 16)) (c .n-in .most))
+  unfolding variables-in
+  few-variables = loop-small (loop-record l) loop-is-sound loop-kind .0
 
   few-rows : rows-in l ≤ 64
-  unfolding rows-in rows _to_
-  few-rows =
-      let c = counts-in (loop-record l) (is-sound (loop-record l) loop-sound) (loop-known _ loop-wanted) in
-      omega (arith, le-fact (v (pos (R.counts-read (loop-record l) .m))) (v (pos 64)) (c .m-in .most))
-
-  rows-small : Each Small-row (loop-in (loop-record l) .rows)
-  rows-small = each-map _ (row-small _) (loop-parts (loop-record l) (is-sound (loop-record l) loop-sound) (is-loop-kind _ loop-wanted) .each)
+  unfolding rows-in
+  few-rows = loop-small (loop-record l) loop-is-sound loop-kind .1
 
 -- ---- a certificate's line
 
@@ -193,58 +189,40 @@ module _ (l c : List ℕ) (loop-sound : first sound (loop-record l) ≡ done) (n
         ),
       )
 
-  -- an accepted certificate's record, and the multipliers that it may have
+  -- an accepted certificate's record
   certificate-wanted : first sound r ≡ done → is-certificate (R.kind r) ≡ true
   unfolding certificate-record
   certificate-wanted h = is-sound r h .wanted
-
-  few-multipliers : first sound r ≡ done → R.counts-read r .m ≤ 64
-  unfolding rows _to_
-  few-multipliers h =
-      let counted = counts-in r (is-sound r h) (certificate-known _ (certificate-wanted h)) in
-      omega (arith, le-fact (v (pos (R.counts-read r .m))) (v (pos 64)) (counted .m-in .most))
-
-  ranking-small : first sound r ≡ done → R.kind r ≡ ranking → let loop-is = loop-in (loop-record l) in let c = ranking-in r in
-      Small-rank (Rankings.rank loop-is c) (Rankings.start loop-is c) (Rankings.fall loop-is c)
-  ranking-small h e =
-      let m = few-multipliers h in
-      let p = ranking-parts r (is-sound r h) e in
-      rank-sizes _ _ (rows-small l loop-sound) (weights-small _ _ (omega arith) (p .Y-in)) (weights-small _ _ (omega arith) (p .Z-in))
-
-  lasso-small : first sound r ≡ done → R.kind r ≡ lasso → let loop-is = Lassos.longer (loop-in (loop-record l)) (lasso-in r) in let c = lasso-in r .ranking in
-      Small-rank (Rankings.rank loop-is c) (Rankings.start loop-is c) (Rankings.fall loop-is c)
-  unfolding parts Each
-  lasso-small h e =
-      let m = few-multipliers h in
-      let p = lasso-parts r (is-sound r h) e in
-      rank-sizes _ _
-      (each-append Small-row (loop-in (loop-record l) .rows) _ (rows-small l loop-sound) (added-small (loop-in (loop-record l) .variables) _ _ (p .s0-in), tt))
-      (weights-small _ _ (omega arith) (p .Y-in)) (weights-small _ _ (omega arith) (p .Z-in))
 
   -- the rank that is printed
   abbrev printed : List ℤ
   printed = take (variables-in l) (rank-after j lent)
 
-  few-printed : (rank-is : List ℤ) (start fall : ℤ) → rank-after j lent ≡ rank-is ++ drop (variables-of (j .records)) lent → length rank-is ≡ variables-in l
-      → Small-rank rank-is start fall → Few printed start fall
-  few-printed rank-is start fall after size small =
-      let whole : printed ≡ rank-is = ap (take (variables-in l)) after ∙ take-at rank-is _ _ size in
-      rw whole (record { sixteen = omega (arith, few-variables l loop-sound); small = small })
+  printed-small : (loop-is : Loop) (c : Rankings.Ranking) → loop-is .variables ≡ variables-in l → Ranking-sums-fit loop-is c
+      → rank-after j lent ≡ Rankings.rank loop-is c ++ drop (variables-of (j .records)) lent → Small-rank printed (Rankings.start loop-is c) (Rankings.fall loop-is c)
+  printed-small loop-is c same-n sums after =
+      let size : length (Rankings.rank loop-is c) ≡ variables-in l = rank-length loop-is c ∙ same-n in
+      let whole : printed ≡ Rankings.rank loop-is c = ap (take (variables-in l)) after ∙ take-at (Rankings.rank loop-is c) _ _ size in
+      rw whole
+      (record { sixteen = omega (arith, few-variables l loop-sound); rank-within = sums .rank-within; start-within = sums .start-within; fall-within = sums .fall-within })
 
   accepted-sound : judges j .number ≡ 0 → first sound r ≡ done
   unfolding judging judge-of
   accepted-sound zero-told = accepts-agrees j .0 zero-told .1 .0
 
   accepted-small : judges j .number ≡ 0 → (k : Kind) → kind-of (j .records) ≡ k → Small-verdict (judges j .outcome) (judges j .number) (judges j .place) printed
-  unfolding kind-of judge-of is-certificate variables-in Rankings.rank loop-in
+  unfolding kind-of judge-of is-certificate variables-in loop-in
   accepted-small zero-told loop e = absurd (false≢true (ap is-certificate (sym e) ∙ certificate-wanted (accepted-sound zero-told)))
   accepted-small zero-told ranking e =
       let a = ranking-answers j lent e zero-told in
-      rw (a .verdict-is) (few-printed _ _ _ (a .list-is) (length-tabulate _ _) (ranking-small (accepted-sound zero-told) e))
+      let s = is-sound r (accepted-sound zero-told) in
+      rw (a .verdict-is) (printed-small _ _ refl (ranking-sums-fit (loop-record l) r (loop-is-sound l loop-sound) s (loop-kind l loop-sound) e (same-counts l c s .1)) (a .list-is))
   accepted-small zero-told exclusion e = rw (exclusion-answers j lent e zero-told .0) tt
   accepted-small zero-told lasso e =
       let a = lasso-answers j lent e zero-told in
-      rw (a .verdict-is) (few-printed _ _ _ (a .list-is) (length-tabulate _ _) (lasso-small (accepted-sound zero-told) e))
+      let s = is-sound r (accepted-sound zero-told) in
+      let same = same-counts l c s in
+      rw (a .verdict-is) (printed-small _ _ refl (lasso-sums-fit-in (loop-record l) r (loop-is-sound l loop-sound) s (loop-kind l loop-sound) e (same .0) (same .1) .1) (a .list-is))
   accepted-small zero-told other e = absurd (false≢true (ap is-certificate (sym e) ∙ certificate-wanted (accepted-sound zero-told)))
 
   verdict-small : (s : Said) → said judging j ≡ s → Small-verdict (judges j .outcome) (judges j .number) (judges j .place) printed

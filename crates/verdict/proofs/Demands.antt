@@ -51,7 +51,7 @@ scale-positive k h = omega (arith, le-fact (v (pos 1)) (v (pos k)) (h .least))
 -- ---- the records of a judge
 
 -- a certificate goes by the loop's counts
-same-counts : (l c : List ℕ) → Sound (certificate-record is-certificate (loop-record l) c)
+pub same-counts : (l c : List ℕ) → Sound (certificate-record is-certificate (loop-record l) c)
     → (counts-read (certificate-record is-certificate (loop-record l) c) .n ≡ counts-read (loop-record l) .n)
     × (counts-read (certificate-record is-certificate (loop-record l) c) .m ≡ counts-read (loop-record l) .m)
 unfolding certificate-record

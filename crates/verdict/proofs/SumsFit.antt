@@ -113,9 +113,10 @@ pub record Ranking-sums-fit (loop : Loop) (c : Ranking) : Type 0 where
   pub ZA : (j : ℕ) → Fits64 (sum (c .Z) (A j) (loop .rows))
   pub ZA′ : (j : ℕ) → Fits64 (sum (c .Z) (A′ j) (loop .rows))
   pub ZA+ZA′ : (j : ℕ) → Fits64 (sum (c .Z) (A j) (loop .rows) +ℤ sum (c .Z) (A′ j) (loop .rows))
-  pub start-fits : Fits64 (start loop c)
-  pub fall-fits : Fits64 (fall loop c)
+  -- far below 2^63: what is shown has at most 12 and 13 digits
   pub rank-within : Within 117_000_000_000 (rank loop c)
+  pub start-within : natAbs (start loop c) ≤ 3_900_000_000_000
+  pub fall-within : natAbs (fall loop c) ≤ 3_900_000_000_000
   -- at every state in range
   pub value : (x : List ℤ) → Within 1_000_000 x → Fits64 (dot (rank loop c) x)
   pub above-start : (x : List ℤ) → Within 1_000_000 x → Fits64 (dot (rank loop c) x -ℤ start loop c)
@@ -126,7 +127,7 @@ within-tabulate zero f most h i = omega arith
 within-tabulate (suc n) f most h zero = h 0
 within-tabulate (suc n) f most h (suc i) = within-tabulate n (λ j. f (suc j)) most (λ j. h (suc j)) i
 
-rank-length : (loop : Loop) (c : Ranking) → length (rank loop c) ≡ loop .variables
+pub rank-length : (loop : Loop) (c : Ranking) → length (rank loop c) ≡ loop .variables
 unfolding rank
 rank-length loop c = length-tabulate (loop .variables) _
 
@@ -150,9 +151,9 @@ sums-fit loop c few small Y-weights Z-weights =
             A-sum-small (c .Z) (loop .rows) Z-weights small j,
             A′-sum-small (c .Z) (loop .rows) Z-weights small j,
           );
-      start-fits = omega (arith, start-small);
-      fall-fits = omega (arith, abs-neg (sum (c .Z) b (loop .rows)), b-sum-small (c .Z) (loop .rows) Z-weights small);
       rank-within = rank-small loop c Z-weights small;
+      start-within = start-small;
+      fall-within = omega (arith, abs-neg (sum (c .Z) b (loop .rows)), b-sum-small (c .Z) (loop .rows) Z-weights small);
       value = λ x in-range. omega (arith, value-small x in-range);
       above-start =
           λ x in-range.
