@@ -13,6 +13,7 @@ use Rattle.whole.proofs.Compare.{true-le}
 use Rattle.whole.proofs.Solve.{v, neg, solve-lt, lt-fact}
 use Rattle.record.specs.Layouts.{Kind, ranking, lasso, is-loop, is-lasso, has-rank}
 use Rattle.record.specs.Readers.{counts-read}
+use Rattle.record.proofs.ReadThenWrite.{sound-says}
 use Rattle.refusal.specs.Tests.{refused, first}
 use Rattle.refusal.proofs.TestLaws.{either, failed}
 use Rattle.whole.proofs.Tables.{length-tabulate}
@@ -34,7 +35,7 @@ use Rattle.verdict.proofs.SumsFitInBytes.{ranking-sums-fit, lasso-sums-fit-in}
 use Rattle.judge.specs.Told.{LoopSound, CertificateSound}
 use Rattle.judge.proofs.ByKind.{loop-of}
 use Rattle.judge.proofs.Held.{ranking-is, lasso-is}
-use Rattle.judge.proofs.Sizes.{says, loop-kind, counts-are}
+use Rattle.judge.proofs.Sizes.{loop-kind, counts-are}
 use Rattle.bound.specs.Told.{refusal-of, StateFits, Ready}
 use Rattle.bound.proofs.Ways.{refused-so, at-conditions, at-invariant}
 
@@ -119,7 +120,7 @@ module _ (rows : List ℕ) (n m : ℕ) (l : LoopSound rows n m) (certificate : L
     ranking-ready e =
         let counts = counts-are rows n m l has-rank certificate ranking c refl in
         let s = both ranking c in
-        let sizes = ranking-sums-fit (call .records .loop-is) (call .records .certificate-is) (says _ (s .loop-sound)) (says _ (s .certificate-sound)) (loop-kind rows n m l) (c .kind-is) (counts .1 ∙ l .m-is) in
+        let sizes = ranking-sums-fit (call .records .loop-is) (call .records .certificate-is) (sound-says _ (s .loop-sound)) (sound-says _ (s .certificate-sound)) (loop-kind rows n m l) (c .kind-is) (counts .1 ∙ l .m-is) in
         ready _ _ r entries (rw (loop-told, ranking-told) at sizes) (by .decided .yes-holds e) long (front _ _ before entries (by .put e)) (by .start-is e) (by .fall-is e)
 
     pub ranking-bounded : r .holds ≡ true
@@ -167,7 +168,7 @@ module _ (rows : List ℕ) (n m : ℕ) (l : LoopSound rows n m) (certificate : L
     lasso-ready e =
         let counts = counts-are rows n m l has-rank certificate lasso c refl in
         let s = both lasso c in
-        let sizes = lasso-sums-fit-in (call .records .loop-is) (call .records .certificate-is) (says _ (s .loop-sound)) (says _ (s .certificate-sound)) (loop-kind rows n m l) (c .kind-is) (counts .0 ∙ l .n-is) (counts .1 ∙ l .m-is) .1 in
+        let sizes = lasso-sums-fit-in (call .records .loop-is) (call .records .certificate-is) (sound-says _ (s .loop-sound)) (sound-says _ (s .certificate-sound)) (loop-kind rows n m l) (c .kind-is) (counts .0 ∙ l .n-is) (counts .1 ∙ l .m-is) .1 in
         ready _ _ r entries (rw (loop-told, lasso-told) at sizes) (by .decided .yes-holds e .ranked) long (front _ _ before entries (by .put e)) (by .start-is e) (by .fall-is e)
 
     pub lasso-bounded : r .holds ≡ true → Lassos.Invariant (lasso-held certificate n m ms) state

@@ -11,7 +11,7 @@ use lib.ListN.{length}
 use lib.Seq.{drop-drop}
 use Rattle.endian.specs.Numbers.{littleAt}
 use Rattle.refusal.specs.Tests.{Told, done, refused, Test, _at_unless_, first, number as number-of}
-use Rattle.refusal.proofs.TestLaws.{either, passed, failed, done-passes, zero-done, both-true}
+use Rattle.refusal.proofs.TestLaws.{either, passed, failed, zero-done, both-true}
 use Rattle.record.specs.Fields.{width, number, values, in-range}
 use Rattle.record.specs.Layouts.{Kind, loop, ranking, exclusion, lasso, other, kindOf, is-loop, is-lasso, is-certificate, has-rank, variable-count, row-count, counts}
 use Rattle.record.specs.Ranges.{variables, rows, within}
@@ -44,7 +44,7 @@ module _ (r : Reader) (v : Checked) (is : v ≡ checks r) where
   accepted-is told = is ∙ ap (λ t. checked t r) told
 
   pub sound-record : v .number ≡ 0 → Sound r
-  sound-record zero = sound-says r (done-passes sound r (accepted zero))
+  sound-record zero = sound-says r (accepted zero)
 
 pub counts-small : (r : Reader) → Sound r → (counts-read r .n ≤ 16) × (counts-read r .m ≤ 64) × (counts-read r .ms ≤ 64)
 unfolding counts-read kind counts is-loop is-lasso in-range values variable-count row-count width number littleAt count-list arguments-fit

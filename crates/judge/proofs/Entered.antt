@@ -5,6 +5,7 @@ use mathlib.Core.Bool.{Bool, true}
 use mathlib.Core.List.{List, []}
 use Rattle.record.specs.Layouts.{Kind, lasso, kindOf, is-certificate, has-rank}
 use Rattle.record.specs.Readers.{Reader, kind, kind-number, counts-read, sound, loop-reader}
+use Rattle.record.proofs.ReadThenWrite.{sound-says}
 use Rattle.refusal.specs.Tests.{done, refused, first}
 use Rattle.runs.proofs.ByKind.{by-kind}
 use Rattle.checking.specs.Checks.{checked, checks}
@@ -12,7 +13,6 @@ use Rattle.checking.specs.declared.Checked.{Checked}
 use Rattle.checking.proofs.Answers as Answers
 use Rattle.verdict.specs.Pairs.{loop-record, certificate-record}
 use Rattle.judge.specs.Told.{LoopSound, CertificateSound}
-use Rattle.judge.proofs.Sizes.{says}
 
 -- ---- the loop
 
@@ -72,7 +72,7 @@ module _ (wants : Kind → Bool) (rows : List ℕ) (n m : ℕ) (l : LoopSound ro
 
     pub kind-wanted : wants (kindOf (v .kind)) ≡ true
     unfolding kind certificate-record
-    kind-wanted = rw kind-told (says r certificate-told .wanted)
+    kind-wanted = rw kind-told (sound-says r certificate-told .wanted)
 
     pub sound-as : (k : Kind) → kindOf (v .kind) ≡ k → CertificateSound wants rows certificate k
     unfolding kind

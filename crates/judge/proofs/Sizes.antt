@@ -1,37 +1,24 @@
 -- What sound records give the conditions' code: their kinds, their counts within the limits, and that every part lies within the bytes.
 use mathlib.Core.Path.{_≡_, refl, sym, _∙_}
 use Prim.Native.Nat.{ℕ, _+_, _*_, _≤_}
-use mathlib.Core.Bool.{Bool, true, false}
+use mathlib.Core.Bool.{Bool, false}
 use mathlib.Core.List.{List}
 use native.Mathlib.Omega.{arith}
 use lib.ListN.{length}
-use Rattle.record.specs.Layouts.{Kind, loop, ranking, exclusion, lasso, other, is-loop, lengthOf}
-use Rattle.record.specs.Readers.{Reader, kind, counts-read, sound, stated-length}
-use Rattle.record.proofs.ReadThenWrite.{Sound, sound-says, arguments-read}
-use Rattle.refusal.specs.Tests.{done, first}
-use Rattle.refusal.proofs.TestLaws.{done-passes}
+use Rattle.record.specs.Layouts.{Kind, loop, ranking, exclusion, lasso, is-loop, lengthOf}
+use Rattle.record.specs.Readers.{Reader, kind, counts-read, stated-length}
+use Rattle.record.proofs.ReadThenWrite.{Sound, sound-says, loop-only, arguments-read}
 use Rattle.checking.proofs.Answers.{counts-small}
 use Rattle.columns.specs.Places.{RowsIn, MultipliersIn}
 use Rattle.conditions.specs.Held.{LassoIn}
 use Rattle.verdict.specs.Pairs.{loop-record, certificate-record}
 use Rattle.judge.specs.Told.{LoopSound, CertificateSound}
 
-pub says : (r : Reader) → first sound r ≡ done → Sound r
-says r h = sound-says r (done-passes sound r h)
-
 -- ---- the loop
-
-loop-only : (k : Kind) → is-loop k ≡ true → k ≡ loop
-unfolding is-loop
-loop-only loop h = refl
-loop-only ranking h = cc
-loop-only exclusion h = cc
-loop-only lasso h = cc
-loop-only other h = cc
 
 module _ (rows : List ℕ) (n m : ℕ) (l : LoopSound rows n m) where
   loop-says : Sound (loop-record rows)
-  loop-says = says (loop-record rows) (l .told)
+  loop-says = sound-says (loop-record rows) (l .told)
 
   pub loop-kind : kind (loop-record rows) ≡ loop
   unfolding loop-record
@@ -59,7 +46,7 @@ module _ (rows : List ℕ) (n m : ℕ) (l : LoopSound rows n m) where
     record-of = certificate-record wants (loop-record rows) certificate
 
     certificate-says : Sound record-of
-    certificate-says = says record-of (c .told)
+    certificate-says = sound-says record-of (c .told)
 
     -- its counts are the loop's
     pub counts-are : (counts-read record-of .n ≡ n) × (counts-read record-of .m ≡ m)

@@ -36,9 +36,9 @@ pub record Sound (r : Reader) : Type 0 where
   pub formula : R.stated-length r ≡ lengthOf (R.kind r) (R.counts-read r)
   pub values-fit : in-range (R.fields r) (R.list r) ≡ true
 
-pub sound-says : (r : Reader) → Passes sound r → Sound r
+passes-say : (r : Reader) → Passes sound r → Sound r
 unfolding sound
-sound-says r h =
+passes-say r h =
     let all-there : 4 + R.stated-length r ≤ length (r .bytes) = leb-true _ _ (h .1 .1 .0) in
     let no-more : length (r .bytes) ≤ 4 + R.stated-length r = leb-true _ _ (h .1 .1 .1 .0) in
     record {
@@ -52,6 +52,9 @@ sound-says r h =
       formula = eqb-true _ _ (h .1 .1 .1 .1 .1 .1 .1 .1 .0);
       values-fit = h .1 .1 .1 .1 .1 .1 .1 .1 .1 .0;
     }
+
+pub sound-says : (r : Reader) → first sound r ≡ done → Sound r
+sound-says r h = passes-say r (done-passes sound r h)
 
 -- a row of fields that has one holds a value
 some-values : (f : Field) (fs : List Field) (bs : List ℕ) → leb 1 (length (values (f ∷ fs) bs)) ≡ true
@@ -212,7 +215,7 @@ unfolding R.reads R.fills R.answer R.filled reading enough-room sound number
 has-read r lent zero-told =
     let told : first reading r ≡ done = zero-done reading r refl (number-told (first reading r) ∙ zero-told) in
     record {
-      sound-record = sound-says r (append-passes sound enough-room r (done-passes reading r told) .0);
+      sound-record = passes-say r (append-passes sound enough-room r (done-passes reading r told) .0);
       kind-told = rw told;
       n-told = rw told;
       m-told = rw told;
@@ -230,6 +233,14 @@ certificate-no-loop ranking h = refl
 certificate-no-loop exclusion h = refl
 certificate-no-loop lasso h = refl
 certificate-no-loop other h = refl
+
+pub loop-only : (k : Kind) → is-loop k ≡ true → k ≡ loop
+unfolding is-loop
+loop-only loop h = refl
+loop-only ranking h = cc
+loop-only exclusion h = cc
+loop-only lasso h = cc
+loop-only other h = cc
 
 -- n and m of a certificate are the arguments
 pub arguments-read : (r : Reader) → is-loop (R.kind r) ≡ false → (R.counts-read r .n ≡ r .n) × (R.counts-read r .m ≡ r .m)

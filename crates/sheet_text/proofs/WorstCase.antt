@@ -15,9 +15,8 @@ use Rattle.decimal.proofs.DecimalLaws.{decimal-length, signed-length}
 use Rattle.record.specs.Layouts.{Kind, loop, ranking, exclusion, lasso, other, is-loop, is-certificate}
 use Rattle.record.specs.Readers as R
 use Rattle.record.specs.Readers.{Reader, sound}
-use Rattle.record.proofs.ReadThenWrite.{Sound, sound-says}
+use Rattle.record.proofs.ReadThenWrite.{Sound, sound-says, loop-only}
 use Rattle.refusal.specs.Tests.{Told, done, refused, first}
-use Rattle.refusal.proofs.TestLaws.{done-passes}
 use Rattle.theory.specs.Loops.{Loop}
 use Rattle.theory.specs.Rankings as Rankings
 use Rattle.verdict.specs.Contents.{loop-in}
@@ -126,9 +125,6 @@ folded-small (refused k p) = (omega arith, omega arith)
 
 -- ---- the records of a judge
 
-is-sound : (r : Reader) → first sound r ≡ done → Sound r
-is-sound r h = sound-says r (done-passes sound r h)
-
 loop-known : (k : Kind) → is-loop k ≡ true → (is-loop k || is-certificate k) ≡ true
 loop-known k e = rw e
 
@@ -140,22 +136,14 @@ certificate-known exclusion e = refl
 certificate-known lasso e = refl
 certificate-known other e = e
 
-is-loop-kind : (k : Kind) → is-loop k ≡ true → k ≡ loop
-unfolding is-loop
-is-loop-kind loop e = refl
-is-loop-kind ranking e = cc
-is-loop-kind exclusion e = cc
-is-loop-kind lasso e = cc
-is-loop-kind other e = cc
-
 -- a loop whose bytes are sound
 module _ (l : List ℕ) (loop-sound : first sound (loop-record l) ≡ done) where
   loop-is-sound : Sound (loop-record l)
-  loop-is-sound = is-sound (loop-record l) loop-sound
+  loop-is-sound = sound-says (loop-record l) loop-sound
 
   loop-kind : R.kind (loop-record l) ≡ loop
   unfolding loop-record
-  loop-kind = is-loop-kind _ (loop-is-sound .wanted)
+  loop-kind = loop-only _ (loop-is-sound .wanted)
 
   pub few-variables : variables-in l ≤ 16
   unfolding variables-in
@@ -192,7 +180,7 @@ module _ (l c : List ℕ) (loop-sound : first sound (loop-record l) ≡ done) (n
   -- an accepted certificate's record
   certificate-wanted : first sound r ≡ done → is-certificate (R.kind r) ≡ true
   unfolding certificate-record
-  certificate-wanted h = is-sound r h .wanted
+  certificate-wanted h = sound-says r h .wanted
 
   -- the rank that is printed
   abbrev printed : List ℤ
@@ -215,12 +203,12 @@ module _ (l c : List ℕ) (loop-sound : first sound (loop-record l) ≡ done) (n
   accepted-small zero-told loop e = absurd (false≢true (ap is-certificate (sym e) ∙ certificate-wanted (accepted-sound zero-told)))
   accepted-small zero-told ranking e =
       let a = ranking-answers j lent e zero-told in
-      let s = is-sound r (accepted-sound zero-told) in
+      let s = sound-says r (accepted-sound zero-told) in
       rw (a .verdict-is) (printed-small _ _ refl (ranking-sums-fit (loop-record l) r (loop-is-sound l loop-sound) s (loop-kind l loop-sound) e (same-counts l c s .1)) (a .list-is))
   accepted-small zero-told exclusion e = rw (exclusion-answers j lent e zero-told .0) tt
   accepted-small zero-told lasso e =
       let a = lasso-answers j lent e zero-told in
-      let s = is-sound r (accepted-sound zero-told) in
+      let s = sound-says r (accepted-sound zero-told) in
       let same = same-counts l c s in
       rw (a .verdict-is) (printed-small _ _ refl (lasso-sums-fit-in (loop-record l) r (loop-is-sound l loop-sound) s (loop-kind l loop-sound) e (same .0) (same .1) .1) (a .list-is))
   accepted-small zero-told other e = absurd (false≢true (ap is-certificate (sym e) ∙ certificate-wanted (accepted-sound zero-told)))

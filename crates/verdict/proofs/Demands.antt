@@ -18,7 +18,7 @@ use Rattle.record.specs.Ranges.{_to_, multipliers, scales}
 use Rattle.record.specs.Readers.{Reader, counts-read, sound}
 use Rattle.record.proofs.ReadThenWrite.{Sound, sound-says, certificate-no-loop, arguments-read}
 use Rattle.refusal.specs.Tests.{done, number, first}
-use Rattle.refusal.proofs.TestLaws.{done-passes, number-avoided}
+use Rattle.refusal.proofs.TestLaws.{number-avoided}
 use Rattle.verdict.proofs.StageLaws.{silent-said}
 use Rattle.theory.specs.Exclusions as Exclusions
 use Rattle.theory.specs.Lassos as Lassos
@@ -57,9 +57,6 @@ pub same-counts : (l c : List ℕ) → Sound (certificate-record is-certificate 
 unfolding certificate-record
 same-counts l c s = arguments-read (certificate-record is-certificate (loop-record l) c) (certificate-no-loop _ (s .wanted))
 
-says : (r : Reader) → first sound r ≡ done → Sound r
-says r h = sound-says r (done-passes sound r h)
-
 -- the grade is whole exactly at q = 1
 whole-grade : (q : ℕ) → grade-of q ≡ Whole → q ≡ 1
 unfolding grade-of
@@ -85,7 +82,7 @@ module _ (p : Pair) (certificate-sound : first sound (p .certificate-is) ≡ don
   pub ranking-nonneg : kind-of p ≡ ranking → Rankings.NonNegative (ranking-in (p .certificate-is))
   unfolding kind-of
   ranking-nonneg e =
-      let parts-in = ranking-parts (p .certificate-is) (says _ certificate-sound) e in
+      let parts-in = ranking-parts (p .certificate-is) (sound-says _ certificate-sound) e in
       (nonneg-all _ (parts-in .Y-in .each), nonneg-all _ (parts-in .Z-in .each))
 
   -- a lasso that meets its conditions keeps its promise
@@ -94,7 +91,7 @@ module _ (p : Pair) (certificate-sound : first sound (p .certificate-is) ≡ don
       Lassos.LassoPromise l c (Rankings.rank (Lassos.longer l c) (c .ranking)) (Rankings.start (Lassos.longer l c) (c .ranking)) (Rankings.fall (Lassos.longer l c) (c .ranking))
   unfolding kind-of parts
   lasso-promise e holds =
-      let p-in = lasso-parts (p .certificate-is) (says _ certificate-sound) e in
+      let p-in = lasso-parts (p .certificate-is) (sound-says _ certificate-sound) e in
       lasso-bounds-runs _ _
       (nonneg-all _ (p-in .T-in .each), nonneg-all _ (p-in .H-in .each), (nonneg-all _ (p-in .Y-in .each), nonneg-all _ (p-in .Z-in .each)))
       (scale-positive _ (p-in .k-in)) (scale-positive _ (p-in .k2-in)) holds
@@ -125,7 +122,7 @@ module _ (l c : List ℕ) (lent : List ℤ) where
   unfolding kind-of judge-of loop-in
   exclusion-facts e h =
       let a = accepted-exactly-when-exclusion j e .0 h in
-      let s = says _ (a .both-sound .certificate-sound) in
+      let s = sound-says _ (a .both-sound .certificate-sound) in
       let p = exclusion-parts (j .records .certificate-is) s e in
       let n-same = same-counts l c s .0 in
       record {
