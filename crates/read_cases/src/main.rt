@@ -1,33 +1,14 @@
 // Runs the two readers at the edges of 01, and through every refusal that they tell, a line each: what was read, and the numbers of the
 // answer.
-use libc::STDOUT_FILENO;
-use record::Reading;
-
-fn number(x: usize) {
-    io::write_all(STDOUT_FILENO, b" ");
-    io::print_decimal(STDOUT_FILENO, x as u64);
-}
-
-// Number, place, kind, n, m and the count of values.
-fn told(name: &[u8], r: Reading) {
-    io::write_all(STDOUT_FILENO, name);
-    number(r.number);
-    number(r.place);
-    number(r.kind);
-    number(r.n);
-    number(r.m);
-    number(r.count);
-    io::write_all(STDOUT_FILENO, b"\n");
-}
 
 fn loop_read(name: &[u8], bytes: &[u8]) {
     let mut values = [0i64; 24];
-    told(name, reading::read_loop(bytes, &mut values));
+    telling::read(name, reading::read_loop(bytes, &mut values));
 }
 
 fn certificate_read(name: &[u8], bytes: &[u8], n: usize, m: usize) {
     let mut values = [0i64; 24];
-    told(name, reading::read_certificate(bytes, n, m, &mut values));
+    telling::read(name, reading::read_certificate(bytes, n, m, &mut values));
 }
 
 fn loops_1() {
@@ -252,7 +233,7 @@ fn certificates_5() {
 // A list that is one place too short, and one that just holds.
 fn places() {
     let mut values = [0i64; 14];
-    told(
+    telling::read(
         b"loop, P into 14 places:",
         reading::read_loop(
             b"\x2a\x00\x00\x00\x01\x00\x02\x00\x03\x00\xff\xff\x01\x00\x00\x00\x00\x00\xfe\xff\xff\xff\xff\xff\x00\x00\x01\x00\x00\x00\xff\xff\xff\xff\x00\x00\x01\x00\x00\x00\xff\xff\x00\x00\x00\x00",
@@ -260,7 +241,7 @@ fn places() {
         ),
     );
     let mut values = [0i64; 15];
-    told(
+    telling::read(
         b"loop, P into 15 places:",
         reading::read_loop(
             b"\x2a\x00\x00\x00\x01\x00\x02\x00\x03\x00\xff\xff\x01\x00\x00\x00\x00\x00\xfe\xff\xff\xff\xff\xff\x00\x00\x01\x00\x00\x00\xff\xff\xff\xff\x00\x00\x01\x00\x00\x00\xff\xff\x00\x00\x00\x00",
@@ -268,7 +249,7 @@ fn places() {
         ),
     );
     let mut values = [0i64; 1];
-    told(
+    telling::read(
         b"certificate, a ranking into 1 place:",
         reading::read_certificate(
             b"\x06\x00\x00\x00\x02\x00\x01\x00\x02\x00",

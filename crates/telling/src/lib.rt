@@ -1,6 +1,8 @@
-// Prints what judging and bound answer, a line each: number, place, record, outcome, and the rank list afterwards or the bound. The programs
-// that are held to stored output share it.
+// Prints what the calls answer, a line each: of a reading or a writing its numbers; of judging and bound number, place, record, outcome, and the
+// rank list afterwards or the bound. The programs that are held to stored output share it.
 use libc::STDOUT_FILENO;
+use record::Reading;
+use record::Writing;
 use verdict::Bounded;
 use verdict::Grade;
 use verdict::Outcome;
@@ -13,6 +15,27 @@ pub fn word(text: &[u8]) {
 fn number(x: usize) {
     word(b" ");
     io::print_decimal(STDOUT_FILENO, x as u64);
+}
+
+// Number, place, kind, n, m and the count of values.
+pub fn read(name: &[u8], r: Reading) {
+    word(name);
+    number(r.number);
+    number(r.place);
+    number(r.kind);
+    number(r.n);
+    number(r.m);
+    number(r.count);
+    word(b"\n");
+}
+
+// Number, place and the count of bytes.
+pub fn written(name: &[u8], w: Writing) {
+    word(name);
+    number(w.number);
+    number(w.place);
+    number(w.written);
+    word(b"\n");
 }
 
 fn signed(x: i64) {

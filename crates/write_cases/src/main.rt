@@ -1,38 +1,9 @@
 // Runs the writer at the edges of 01, and through every refusal that it tells, a line each: what was given, and the numbers of the answer.
 // And the most rows, written and read back.
-use libc::STDOUT_FILENO;
-use record::Reading;
-use record::Writing;
-
-fn number(x: usize) {
-    io::write_all(STDOUT_FILENO, b" ");
-    io::print_decimal(STDOUT_FILENO, x as u64);
-}
-
-// Number, place, kind, n, m and the count of values.
-fn told(name: &[u8], r: Reading) {
-    io::write_all(STDOUT_FILENO, name);
-    number(r.number);
-    number(r.place);
-    number(r.kind);
-    number(r.n);
-    number(r.m);
-    number(r.count);
-    io::write_all(STDOUT_FILENO, b"\n");
-}
-
-// Number, place and the count of bytes.
-fn written(name: &[u8], w: Writing) {
-    io::write_all(STDOUT_FILENO, name);
-    number(w.number);
-    number(w.place);
-    number(w.written);
-    io::write_all(STDOUT_FILENO, b"\n");
-}
 
 fn record_written(name: &[u8], kind: usize, n: usize, m: usize, values: &[i64]) {
     let mut room = [0u8; 64];
-    written(name, writing::write_record(kind, n, m, values, &mut room));
+    telling::written(name, writing::write_record(kind, n, m, values, &mut room));
 }
 
 fn records_1() {
@@ -117,12 +88,12 @@ fn records_5() {
 // A room that is one byte too short, and one that just holds.
 fn rooms() {
     let mut room = [0u8; 9];
-    written(
+    telling::written(
         b"a ranking into 9 bytes:",
         writing::write_record(2, 1, 1, &[1i64, 2], &mut room),
     );
     let mut room = [0u8; 10];
-    written(
+    telling::written(
         b"a ranking into 10 bytes:",
         writing::write_record(2, 1, 1, &[1i64, 2], &mut room),
     );
@@ -131,12 +102,12 @@ fn rooms() {
 // The most rows, written and read back.
 fn most_rows() {
     let mut room = [0u8; 522];
-    written(
+    telling::written(
         b"m 64:",
         writing::write_record(1, 1, 64, &[0i64; 192], &mut room),
     );
     let mut values = [1i64; 192];
-    told(b"m 64, read back:", reading::read_loop(&room, &mut values));
+    telling::read(b"m 64, read back:", reading::read_loop(&room, &mut values));
 }
 
 fn main() {
