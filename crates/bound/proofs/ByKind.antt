@@ -1,5 +1,5 @@
 -- Each kind's certificate in a bound call: what the code's answers about its conditions and at the state mean for the definition.
-use mathlib.Core.Path.{_≡_, refl, sym, ap, _∙_}
+use mathlib.Core.Path.{_≡_, refl, sym, _∙_}
 use Prim.Native.Nat.{ℕ}
 use mathlib.Core.Bool.{true, false}
 use mathlib.Core.List.{List, _++_}
@@ -33,8 +33,7 @@ use Rattle.verdict.proofs.BoundAnswers.{State-in, inside-all, state-fits, bound
 use Rattle.verdict.proofs.SumsFit.{Ranking-sums-fit, small-state}
 use Rattle.verdict.proofs.SumsFitInBytes.{ranking-sums-fit, lasso-sums-fit-in}
 use Rattle.judge.specs.Told.{LoopSound, CertificateSound}
-use Rattle.judge.proofs.ByKind.{loop-of}
-use Rattle.judge.proofs.Held.{ranking-is, lasso-is}
+use Rattle.judge.proofs.ByKind.{loop-of, ranking-of, lasso-of}
 use Rattle.judge.proofs.Sizes.{loop-kind, counts-are}
 use Rattle.bound.specs.Told.{refusal-of, StateFits, Ready}
 use Rattle.bound.proofs.Ways.{refused-so, at-conditions, at-invariant}
@@ -102,10 +101,8 @@ module _ (rows : List ℕ) (n m : ℕ) (l : LoopSound rows n m) (certificate : L
   module _ (c : CertificateSound has-rank rows certificate ranking) (r : Ranked) (before entries : List ℤ)
       (by : RankedBy r (loop-held rows n m) (ranking-held certificate 6 m) before entries) (long : length entries ≡ 16) where
     ranking-told : ranking-in (call .records .certificate-is) ≡ ranking-held certificate 6 m
-    unfolding bound-of certificate-record is-loop
-    ranking-told =
-        ranking-is (certificate-record has-rank (loop-record rows) certificate) (c .kind-is) ∙
-        ap (ranking-held certificate 6) (counts-are rows n m l has-rank certificate ranking c refl .1)
+    unfolding bound-of
+    ranking-told = ranking-of rows n m l has-rank certificate c
 
     pub ranking-refused : r .holds ≡ false → refusal-of 2 8 0 ≡ bounds call
     ranking-refused e =
@@ -140,10 +137,8 @@ module _ (rows : List ℕ) (n m : ℕ) (l : LoopSound rows n m) (certificate : L
       (ms-is : ms ≡ counts-read (certificate-record has-rank (loop-record rows) certificate) .ms) (r : Ranked)
       (before entries : List ℤ) (by : LassoBy r (loop-held rows n m) (lasso-held certificate n m ms) before entries) (long : length entries ≡ 16) where
     lasso-told : lasso-in (call .records .certificate-is) ≡ lasso-held certificate n m ms
-    unfolding bound-of certificate-record is-loop
-    lasso-told =
-        let counts = counts-are rows n m l has-rank certificate lasso c refl in
-        lasso-is (certificate-record has-rank (loop-record rows) certificate) (c .kind-is) ∙ rw (counts .0, counts .1, ← ms-is)
+    unfolding bound-of
+    lasso-told = lasso-of rows n m l has-rank certificate ms c ms-is
 
     pub lasso-refused : r .holds ≡ false → refusal-of 2 8 0 ≡ bounds call
     lasso-refused e =

@@ -7,7 +7,7 @@ use lib.IntN.{ℤ}
 use lib.ListN.{length}
 use Rattle.endian.specs.Numbers.{littleAt}
 use Rattle.record.specs.Layouts.{Kind, ranking, exclusion, lasso, is-loop, is-certificate, has-rank}
-use Rattle.record.specs.Readers.{counts-read}
+use Rattle.record.specs.Readers.{Reader, counts-read}
 use Rattle.theory.specs.Exclusions.{ExclusionHolds}
 use Rattle.conditions.specs.Decided.{Decides, RankedBy, LassoBy}
 use Rattle.conditions.specs.Held.{loop-held, ranking-held, exclusion-held, lasso-held}
@@ -27,6 +27,21 @@ use Rattle.judge.proofs.Ways.{refused-so, at-room, at-conditions}
 pub loop-of : (rows : List ℕ) (n m : ℕ) → LoopSound rows n m → loop-in (loop-record rows) ≡ loop-held rows n m
 unfolding loop-record
 loop-of rows n m l = loop-is (loop-record rows) (loop-kind rows n m l) ∙ rw (← l .n-is, ← l .m-is)
+
+-- and the certificate, whichever kinds are wanted
+module _ (rows : List ℕ) (n m : ℕ) (l : LoopSound rows n m) (wants : Kind → Bool) (certificate : List ℕ) where
+  abbrev record-of : Reader
+  record-of = certificate-record wants (loop-record rows) certificate
+
+  pub ranking-of : CertificateSound wants rows certificate ranking → ranking-in record-of ≡ ranking-held certificate 6 m
+  unfolding certificate-record is-loop
+  ranking-of c = ranking-is record-of (c .kind-is) ∙ ap (ranking-held certificate 6) (counts-are rows n m l wants certificate ranking c refl .1)
+
+  pub lasso-of : (ms : ℕ) → CertificateSound wants rows certificate lasso → ms ≡ counts-read record-of .ms → lasso-in record-of ≡ lasso-held certificate n m ms
+  unfolding certificate-record is-loop
+  lasso-of ms c ms-is =
+      let counts = counts-are rows n m l wants certificate lasso c refl in
+      lasso-is record-of (c .kind-is) ∙ rw (counts .0, counts .1, ← ms-is)
 
 module _ (rows : List ℕ) (n m : ℕ) (l : LoopSound rows n m) (certificate : List ℕ) (lent : List ℤ) where
   abbrev j : Judging
@@ -63,10 +78,8 @@ module _ (rows : List ℕ) (n m : ℕ) (l : LoopSound rows n m) (certificate : L
   module _ (c : CertificateSound is-certificate rows certificate ranking) (r : Ranked) (after : List ℤ)
       (by : RankedBy r (loop-held rows n m) (ranking-held certificate 6 m) lent after) (room : n ≤ length lent) where
     ranking-told : ranking-in (j .records .certificate-is) ≡ ranking-held certificate 6 m
-    unfolding judge-of certificate-record is-loop
-    ranking-told =
-        ranking-is (certificate-record is-certificate (loop-record rows) certificate) (c .kind-is) ∙
-        ap (ranking-held certificate 6) (counts-are rows n m l is-certificate certificate ranking c refl .1)
+    unfolding judge-of
+    ranking-told = ranking-of rows n m l is-certificate certificate c
 
     ranking-room : variables-of (j .records) ≤ j .room
     unfolding judge-of
@@ -130,10 +143,8 @@ module _ (rows : List ℕ) (n m : ℕ) (l : LoopSound rows n m) (certificate : L
       (ms-is : ms ≡ counts-read (certificate-record is-certificate (loop-record rows) certificate) .ms) (r : Ranked)
       (after : List ℤ) (by : LassoBy r (loop-held rows n m) (lasso-held certificate n m ms) lent after) (room : n ≤ length lent) where
     lasso-told : lasso-in (j .records .certificate-is) ≡ lasso-held certificate n m ms
-    unfolding judge-of certificate-record is-loop
-    lasso-told =
-        let counts = counts-are rows n m l is-certificate certificate lasso c refl in
-        lasso-is (certificate-record is-certificate (loop-record rows) certificate) (c .kind-is) ∙ rw (counts .0, counts .1, ← ms-is)
+    unfolding judge-of
+    lasso-told = lasso-of rows n m l is-certificate certificate ms c ms-is
 
     lasso-room : variables-of (j .records) ≤ j .room
     unfolding judge-of
