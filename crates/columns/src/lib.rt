@@ -1,6 +1,7 @@
 // The sums of a judge, taken straight from the bytes of the records: nothing is unpacked. Each is a
 // running sum (`Total`) that takes one row, or one column, after another; totals that meet the same
-// row share its visit. The sums know rows and multipliers by their places alone, so one loop serves
+// row share its visit. A ranking's totals of all columns lie side by side in lists, so that a row is
+// added to several at once. The sums know rows and multipliers by their places alone, so they serve
 // loop rows and stem rows and every kind of certificate.
 //
 // `count` rows over n variables lie in `rows` from `start` on, and as many multipliers in

@@ -8,7 +8,7 @@ ghost use Rattle.theory.specs.Loops.{b};
 ghost use lib.Signed.{_≤ℤ_};
 ghost use lib.ListN.{length, getD, drop};
 ghost use mathlib.Core.List.{_++_};
-ghost use Rattle.columns.specs.Places.{entryAt, rightAt, RowsIn, MultipliersIn, AllModest};
+ghost use Rattle.columns.specs.Places.{rightAt, RowsIn, MultipliersIn, AllModest};
 ghost use Rattle.columns.specs.Running.{CanGrow, Modest};
 ghost use Rattle.conditions.specs.Decided.{Decides, ColumnHolds, ColumnIn, nextIn, RanksBy, ColumnsBy, RowTaken, Shows, RankedBy, RowExcluded, CarriedAt, Carried, Starts, Keeps, LassoBy};
 ghost use Rattle.conditions.specs.Held.{loop-held, ranking-held, exclusion-held, LassoIn, lasso-held, longer-held};

@@ -1,5 +1,5 @@
-// Where the numbers of a body are out of range. Each run of equal fields has a loop of its own, which tests the bytes where they stand,
-// one comparison a field, and tells the place of the first that is out of range, or the end of the run if there is none.
+// Where the numbers of a body are out of range. Each run of equal fields has two loops, which test the bytes where they stand, one
+// comparison a field: one says whether all are in range, several at a time; the other tells the place of the first that is not.
 ghost use Prim.Native.Nat.{_+_, _*_, _≤_};
 ghost use mathlib.Core.Path.{_≡_};
 ghost use mathlib.Core.Bool.{_&&_};

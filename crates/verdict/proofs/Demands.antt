@@ -15,7 +15,7 @@ use Rattle.whole.proofs.Solve.{v, le-fact}
 use Rattle.record.specs.Contents.{In}
 use Rattle.record.specs.Layouts.{ranking, exclusion, lasso, is-certificate}
 use Rattle.record.specs.Ranges.{_to_, multipliers, scales}
-use Rattle.record.specs.Readers.{Reader, counts-read, sound}
+use Rattle.record.specs.Readers.{counts-read, sound}
 use Rattle.record.proofs.ReadThenWrite.{Sound, sound-says, certificate-no-loop, arguments-read}
 use Rattle.refusal.specs.Tests.{done, number, first}
 use Rattle.refusal.proofs.TestLaws.{number-avoided}

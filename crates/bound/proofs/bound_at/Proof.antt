@@ -10,7 +10,7 @@ use lib.ListN.{length, take}
 use lib.Seq.{length-take-le}
 use mir.Facts.{toZ-ofZ}
 use Rattle.theory.specs.Rankings as Rankings
-use borrow.Author.Needs.{needs, sfits-of}
+use borrow.Author.Needs.{sfits-of}
 use Rattle.bound.proofs.bound_at.Statement.{statement}
 use Rattle.bound.proofs.bound_at.Tie as tie
 

@@ -1,7 +1,6 @@
 -- `columns::add_lifted` meets its contract. Assumes nothing.
 use native.Mathlib.Omega.{arith}
 use lib.IntN.{pos}
-use mir.Syntax.{w64}
 use mir.Facts.{toZ-ofZ}
 use Rattle.columns.specs.Places.{entryAt}
 use Rattle.columns.proofs.SumLaws.{may-add, lifted-added}

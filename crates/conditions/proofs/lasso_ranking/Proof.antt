@@ -6,7 +6,7 @@ use borrow.Author.Tests.{not-true, not-false}
 use Rattle.whole.specs.Sums.{sum}
 use Rattle.theory.specs.Loops.{b}
 use Rattle.conditions.specs.Decided.{Shows}
-use Rattle.conditions.specs.Held.{loop-held, ranking-held, longer-held}
+use Rattle.conditions.specs.Held.{ranking-held, longer-held}
 use Rattle.conditions.proofs.RankedLaws.{fourth-fails, three-fail, all-hold}
 use Rattle.conditions.proofs.Totals.{grown-fits}
 use Rattle.conditions.proofs.lasso_ranking.Statement.{statement}

@@ -1,11 +1,8 @@
 -- `conditions::loop_columns` meets its contract: the lifted totals, less the lifts, are the sums of the theory. Assumes nothing.
 use Prim.Native.Nat.{_+_, _*_, _≤_, _<_}
 use native.Mathlib.Omega.{arith}
-use lib.IntN.{ℤ}
-use lib.ListN.{length}
 use mir.Syntax.{w64}
 use mir.Facts.{toZ-ofZ}
-use Rattle.columns.specs.Running.{Modest}
 use Rattle.columns.proofs.LiftLaws.{sums-modest}
 use Rattle.conditions.specs.Held.{loop-held, ranking-held}
 use Rattle.conditions.proofs.RankedLaws.{columns-of}

@@ -7,7 +7,7 @@ use lib.ListN.{length}
 use borrow.Author.Tests.{not-true, not-false}
 use Rattle.record.specs.Layouts.{lasso, is-certificate, has-rank}
 use Rattle.judge.proofs.ByKind.{short-list, lasso-refused, lasso-accepted}
-use Rattle.judge.proofs.Sizes.{n-few, rows-in, lasso-long}
+use Rattle.judge.proofs.Sizes.{rows-in, lasso-long}
 use borrow.Author.Needs.{needs, sfits-of}
 use Rattle.judge.proofs.judge_lasso.Statement.{statement}
 use Rattle.judge.proofs.judge_lasso.Tie as tie
