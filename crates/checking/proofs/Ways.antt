@@ -80,6 +80,15 @@ module _ (r : Reader) where
       by-told done e = absurd (some (ap (λ x. x .number) (told ∙ ap framed e)))
       by-told (refused k p) e = told ∙ ap framed e ∙ says (first-told framing (drop 4 sound) r k p e)
 
+  -- such an answer has nothing but its number and place
+  pub frame-only : (v : Checked) → v ≡ framed (first framing r) → refusal (v .number) (v .place) ≡ v
+  unfolding framed
+  frame-only v told = rw told (by-told (first framing r))
+    where
+      by-told : (t : Told) → refusal (framed t .number) (framed t .place) ≡ framed t
+      by-told done = refl
+      by-told (refused k p) = refl
+
   number-told : (t : Told) → framed t .number ≡ number-of t
   unfolding framed number-of
   number-told done = refl

@@ -149,7 +149,7 @@ pub fn check_loop(bytes: &[u8]) -> Checked
 {
     let head = frame(bytes);
     if head.number != 0 {
-        return head;
+        return refused(head.number, head.place);
     }
     match endian::u16_at(bytes, 4) {
         1 => loop_record(bytes),
@@ -163,7 +163,7 @@ pub fn check_certificate(bytes: &[u8], n: usize, m: usize) -> Checked
 {
     let head = frame(bytes);
     if head.number != 0 {
-        return head;
+        return refused(head.number, head.place);
     }
     match endian::u16_at(bytes, 4) {
         2 => ranking_record(bytes, n, m),
@@ -179,7 +179,7 @@ pub fn check_ranked(bytes: &[u8], n: usize, m: usize) -> Checked
 {
     let head = frame(bytes);
     if head.number != 0 {
-        return head;
+        return refused(head.number, head.place);
     }
     match endian::u16_at(bytes, 4) {
         2 => ranking_record(bytes, n, m),

@@ -4,7 +4,7 @@ use mathlib.Core.List.{[]}
 use Rattle.record.specs.Readers.{loop-reader, certificate-reader}
 use Rattle.runs.proofs.ByKind.{no-certificate}
 use Rattle.checking.specs.Checks.{framed, Framed}
-use Rattle.checking.proofs.Ways.{frame-refuses, frame-passes, same-frame, certificate-unwanted}
+use Rattle.checking.proofs.Ways.{frame-only, frame-refuses, frame-passes, same-frame, certificate-unwanted}
 use borrow.Author.Needs.{needs}
 use Rattle.checking.proofs.check_certificate.Statement.{statement}
 use Rattle.checking.proofs.check_certificate.Tie as tie
@@ -16,10 +16,16 @@ right-frame c = frame-passes (loop-reader (c .before .before .before .before .ar
 frame-requires : tie.Need-frame-requires
 frame-requires c κs = search needs
 
+refused-requires : tie.Need-refused-requires
+refused-requires c κs = search needs
+
 returns : tie.Need-returns
 returns c =
-    let a = c .before .before .before .before .args in
-    frame-refuses (certificate-reader (a .bytes .now) (a .n) (a .m) []) (c .before .before .frame .result) (c .before .before .frame .ensures ∙ ap framed (same-frame (a .bytes .now) (a .n) (a .m))) (c .if1 .taken)
+    let called = c .before .before .before .frame in
+    let a = c .before .before .before .before .before .args in
+    let r = certificate-reader (a .bytes .now) (a .n) (a .m) [] in
+    let told = called .ensures ∙ ap framed (same-frame (a .bytes .now) (a .n) (a .m)) in
+    c .refused .ensures ∙ frame-only r (called .result) told ∙ frame-refuses r (called .result) told (c .before .if1 .taken)
 
 u16-at-requires : tie.Need-u16-at-requires
 u16-at-requires c κs = right-frame c .head
@@ -33,8 +39,8 @@ exclusion-record-requires c κs = (right-frame (c .before .before), sym (c .befo
 lasso-record-requires : tie.Need-lasso-record-requires
 lasso-record-requires c κs = (right-frame (c .before .before), sym (c .before .u16-at .ensures .0) ∙ c .match .keys3)
 
-refused-requires : tie.Need-refused-requires
-refused-requires c κs = search needs
+refused-requires-2 : tie.Need-refused-requires-2
+refused-requires-2 c κs = search needs
 
 returns-2 : tie.Need-returns-2
 returns-2 c = search needs
@@ -50,7 +56,7 @@ returns-5 c =
     let a = c .before .before .before .before .before .before .before .args in
     let read = c .before .before .u16-at .ensures .0 in
     let rest = c .before .match .rest in
-    c .refused .ensures
+    c .refused2 .ensures
     ∙ certificate-unwanted (a .bytes .now) (a .n) (a .m) (right-frame (c .before .before .before)) (no-certificate _ (λ e. rest .0 .0 .1 (read ∙ e)) (λ e. rest .0 .1 (read ∙ e)) (λ e. rest .1 (read ∙ e)))
 
 pub check-certificate-spec : {M : Type 1} → statement M
@@ -58,12 +64,13 @@ check-certificate-spec =
     tie.close
     (tie.spec
     frame-requires
+    refused-requires
     returns
     u16-at-requires
     ranking-record-requires
     exclusion-record-requires
     lasso-record-requires
-    refused-requires
+    refused-requires-2
     returns-2
     returns-3
     returns-4
