@@ -112,6 +112,7 @@ pub record RowAdded (multiplier : ℕ) (rows : List ℕ) (row width : ℕ) (befo
 abbrev pub AllGrow : ℕ → List ℤ → Type 0
 AllGrow width sums = (k : ℕ) → k < width → CanGrow (getD sums k (pos 0))
 
+-- they are small enough for the lift to be taken off, and a term more
 abbrev pub AllModest : ℕ → List ℤ → Type 0
 AllModest width sums = (k : ℕ) → k < width → Modest (getD sums k (pos 0))
 

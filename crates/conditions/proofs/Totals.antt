@@ -52,10 +52,6 @@ right-is multipliers place rows start n count s h = h .is ∙ right-over-rows mu
 
 -- ---- the three conditions at a column
 
--- what is passed on can grow as well
-pub passed-grows : (s : ℤ) → CanGrow s → CanGrow (toZ w64 (ofZ w64 s))
-passed-grows s h = rw (toZ-ofZ (grown-fits h)) h
-
 -- a column whose totals, as they are passed on, are tested
 pub column-decided : (answer : Bool) (ya ya2 za za2 : ℤ) → CanGrow ya → CanGrow ya2 → CanGrow za → CanGrow za2
     → Decides answer (ColumnHolds (toZ w64 (ofZ w64 ya)) (toZ w64 (ofZ w64 ya2)) (toZ w64 (ofZ w64 za)) (toZ w64 (ofZ w64 za2)))

@@ -104,7 +104,8 @@ fn rank_columns(ys: &[i64], zs: &[i64], n: usize, ylift: i64, zlift: i64, rank: 
     true
 }
 
-// The first three conditions of kind 2: YA' = 0; (Y - Z)A = 0; Z(A + A') = 0.
+// The first three conditions of kind 2: YA' = 0; (Y - Z)A = 0; Z(A + A') = 0. Where they hold the
+// rank is put.
 fn loop_columns(rows: &[u8], n: usize, m: usize, certificate: &[u8], rank: &mut [i64]) -> bool
     requires { ⌜ RowsIn (now rows) 10 n m × (n ≤ 16) × (m ≤ 64) × MultipliersIn (now certificate) (6 + 2 * m) m × (n ≤ length (now rank)) ⌝ }
     ensures { λ r. ⌜ ColumnsBy r (loop-held (now (rows .entry)) n m) (ranking-held (now (certificate .entry)) 6 m) (now (rank .entry)) (now (rank .exit)) ⌝ }
@@ -307,7 +308,8 @@ fn lasso_right(rows: &[u8], n: usize, m: usize, certificate: &[u8], place: usize
     )
 }
 
-// The first three conditions of a lasso's ranking, over the loop with the added row.
+// The first three conditions of a lasso's ranking, over the loop with the added row. Where they
+// hold the rank is put.
 fn longer_columns(
     rows: &[u8],
     n: usize,

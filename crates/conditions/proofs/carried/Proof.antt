@@ -11,7 +11,8 @@ use Rattle.columns.specs.Lists.{multipliersFrom, entriesFrom, rowsFrom}
 use Rattle.columns.specs.Places.{rightAt}
 use Rattle.conditions.specs.Decided.{CarriedAt}
 use Rattle.conditions.proofs.Deciding.{answer-no, answer-by}
-use Rattle.conditions.proofs.Totals.{can-grow, grown-fits, passed-grows, right-is}
+use Rattle.columns.proofs.LiftLaws.{passed-grows}
+use Rattle.conditions.proofs.Totals.{can-grow, grown-fits, right-is}
 use Rattle.conditions.proofs.carried.Statement.{statement}
 use Rattle.conditions.proofs.carried.Tie as tie
 

@@ -4,7 +4,8 @@ use mir.Facts.{toZ-ofZ}
 use Rattle.whole.proofs.Size.{fits-abs}
 use Rattle.columns.specs.Places.{entryAt}
 use Rattle.conditions.proofs.CarriedLaws.{carried-decided}
-use Rattle.conditions.proofs.Totals.{next-grows, passed-grows}
+use Rattle.columns.proofs.LiftLaws.{passed-grows}
+use Rattle.conditions.proofs.Totals.{next-grows}
 use borrow.Author.Needs.{needs}
 use Rattle.conditions.proofs.column_carried.Statement.{statement}
 use Rattle.conditions.proofs.column_carried.Tie as tie

@@ -2,7 +2,8 @@
 use Prim.Native.Nat.{_+_}
 use native.Mathlib.Omega.{arith}
 use mir.Facts.{toZ-ofZ}
-use Rattle.conditions.proofs.Totals.{passed-grows, column-decided}
+use Rattle.columns.proofs.LiftLaws.{passed-grows}
+use Rattle.conditions.proofs.Totals.{column-decided}
 use borrow.Author.Needs.{needs}
 use Rattle.conditions.proofs.one_column.Statement.{statement}
 use Rattle.conditions.proofs.one_column.Tie as tie

@@ -9,7 +9,8 @@ use Rattle.theory.specs.Loops.{b}
 use Rattle.conditions.specs.Decided.{Shows}
 use Rattle.conditions.specs.Held.{loop-held, ranking-held}
 use Rattle.conditions.proofs.RankedLaws.{fourth-fails, three-fail, all-hold}
-use Rattle.conditions.proofs.Totals.{can-grow, grown-fits, passed-grows, right-is}
+use Rattle.columns.proofs.LiftLaws.{passed-grows}
+use Rattle.conditions.proofs.Totals.{can-grow, grown-fits, right-is}
 use Rattle.conditions.proofs.ranking.Statement.{statement}
 use Rattle.conditions.proofs.ranking.Tie as tie
 
