@@ -12,9 +12,9 @@ use Rattle.whole.proofs.Solve.{v, _⊕_, _⊗_, neg, solve-le, eq-fact, le-fact
 use Rattle.whole.proofs.Ring.{neg-*ℤ, pos-mono, mul-mono, mul-cancel}
 use Rattle.whole.proofs.EachLaws.{each-append}
 use Rattle.whole.proofs.SumLaws.{dot-scale, dot-zeros}
-use Rattle.theory.specs.Loops.{A, A′, b, Loop, Meets, Step, Run}
-use Rattle.theory.specs.Rankings.{rank, start, fall, bound, Bounds}
-use Rattle.theory.specs.Lassos.{Lasso, NonNegativeLasso, LassoHolds, stemOf, added, longer, Invariant, AfterStem, LassoPromise}
+use Rattle.theory.specs.Loops.{A, A′, b, Loop, Meets, Step, Run, Endless}
+use Rattle.theory.specs.Rankings.{rank, start, fall, bound}
+use Rattle.theory.specs.Lassos.{Lasso, NonNegativeLasso, LassoHolds, stemOf, added, longer, Invariant, LassoPromise}
 use Rattle.theory.proofs.Steps.{weighted, columns-are}
 use Rattle.theory.proofs.RankingTheorems.{no-difference, no-endless, ranking-bounds-runs}
 
@@ -98,21 +98,20 @@ module _ (loop : Loop) (c : Lasso) (nonneg : NonNegativeLasso c) (k-positive : 1
   longer-run x [] i t = t
   longer-run x (y ∷ ys) i t = (longer-step x y i (t .0), longer-run y ys (keeps x y i (t .0)) (t .1))
 
-  -- bounded from states that meet the invariant, however that is known
-  bounds-from : (From : List ℤ → Type 0) → ((x : List ℤ) → From x → Invariant c x)
-      → Bounds loop From (rank (longer loop c) (c .ranking)) (start (longer loop c) (c .ranking)) (fall (longer loop c) (c .ranking))
-  bounds-from From f =
-      record { steps = within; ends = λ state h e. no-endless loop state _ (λ ys t. within (state 0) ys h t) e }
-    where
-      within : (x : List ℤ) (ys : List (List ℤ)) → From x → Run loop x ys
-          → length ys ≤ bound (rank (longer loop c) (c .ranking)) (start (longer loop c) (c .ranking)) (fall (longer loop c) (c .ranking)) x
-      within x ys h t = ranking-bounds-runs (longer loop c) (c .ranking) (nonneg .2) (holds .ranked) .steps x ys tt (longer-run x ys (f x h) t)
+  -- the runs from states that meet the invariant are bounded
+  within : (x : List ℤ) (ys : List (List ℤ)) → Invariant c x → Run loop x ys
+      → length ys ≤ bound (rank (longer loop c) (c .ranking)) (start (longer loop c) (c .ranking)) (fall (longer loop c) (c .ranking)) x
+  within x ys i t = ranking-bounds-runs (longer loop c) (c .ranking) (nonneg .2) (holds .ranked) .steps x ys tt (longer-run x ys i t)
+
+  ends : (state : ℕ → List ℤ) → Invariant c (state 0) → Endless loop state → ⊥
+  ends state i e = no-endless loop state _ (λ ys t. within (state 0) ys i t) e
 
   pub lasso-bounds-runs : LassoPromise loop c (rank (longer loop c) (c .ranking)) (start (longer loop c) (c .ranking)) (fall (longer loop c) (c .ranking))
   lasso-bounds-runs =
       record {
-        started = λ x t. starts (t .0) x (t .1);
+        started = starts;
         kept = keeps-all;
-        from-invariant = bounds-from (Invariant c) (λ x i. i);
-        after-stem = bounds-from (AfterStem loop c) (λ x t. starts (t .0) x (t .1));
+        from-invariant = record { steps = within; ends = ends };
+        steps-after-stem = λ x x′ ys t. within x′ ys (starts x x′ t);
+        ends-after-stem = λ x state t. ends state (starts x (state 0) t);
       }

@@ -5,3 +5,4 @@ pub mod LassoTheorems
 pub mod WeightTheorems
 pub mod Decisions
 pub mod SampleTheorems
+pub mod Pins

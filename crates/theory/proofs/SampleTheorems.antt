@@ -20,10 +20,10 @@ use Rattle.theory.specs.Samples.{S7-loop, S7, S9-loop, S14-loop, S14}
 use Rattle.theory.specs.Table.{told, computed, computing}
 
 -- the only variable
-abbrev only : List ℤ → ℤ
+abbrev pub only : List ℤ → ℤ
 only x = getD x 0 (pos 0)
 
-dot-only : (a : ℤ) (x : List ℤ) → dot (a ∷ []) x ≡ a *ℤ only x
+pub dot-only : (a : ℤ) (x : List ℤ) → dot (a ∷ []) x ≡ a *ℤ only x
 unfolding dot
 dot-only a x = dot-cons a [] x ∙ +ℤ-idr (a *ℤ only x)
 

@@ -1,13 +1,13 @@
 -- Lassos: 01, "Conditions", after document 001's Bradley-Manna-Sipma constraints with the invariant as a premise.
-use Prim.Native.Nat.{ℕ, _<_}
+use Prim.Native.Nat.{ℕ, _<_, _≤_}
 use mathlib.Core.Path.{_≡_}
 use mathlib.Core.List.{List}
 use lib.IntN.{ℤ, pos, negsuc, negℤ, _+ℤ_, _-ℤ_, _*ℤ_}
-use lib.ListN.{getD, replicate}
+use lib.ListN.{length, getD, replicate}
 use lib.Signed.{_≤ℤ_}
 use Rattle.whole.specs.Sums.{dot, sum, scale, Each, NonNeg}
-use Rattle.theory.specs.Loops.{Row, A, A′, b, Loop, over, withRow, Step, Run}
-use Rattle.theory.specs.Rankings.{Ranking, NonNegative, RankingHolds, Bounds}
+use Rattle.theory.specs.Loops.{Row, A, A′, b, Loop, over, withRow, Step, Run, Endless}
+use Rattle.theory.specs.Rankings.{Ranking, NonNegative, RankingHolds, bound, Bounds}
 
 -- stem rows (B, B′, d); the invariant s·x + s0 >= 0; T, one per stem row, and its scale k; H, one per loop row, h0 and their scale k2; the ranking
 pub record Lasso : Type 0 where
@@ -51,14 +51,11 @@ pub record LassoHolds (loop : Loop) (c : Lasso) : Type 0 where
 abbrev pub Invariant : Lasso → List ℤ → Type 0
 Invariant c x = pos 0 ≤ℤ (dot (c .s) x +ℤ c .s0)
 
--- x′ is the state after some stem step
-abbrev pub AfterStem : Loop → Lasso → List ℤ → Type 0
-AfterStem loop c x′ = (x : List ℤ) × Step (stemOf loop c) 1 x x′
-
 -- what a lasso promises: every stem step starts the invariant, every run keeps it, and the runs from states that meet it are bounded, with the rank,
--- start and fall of the longer loop. So the runs that follow a stem step are, which is the promise of 01
+-- start and fall of the longer loop. So the runs that follow a stem step from x to x′ are, which is the promise of 01
 pub record LassoPromise (loop : Loop) (c : Lasso) (r : List ℤ) (δ0 δ : ℤ) : Type 0 where
-  pub started : (x : List ℤ) → AfterStem loop c x → Invariant c x
+  pub started : (x x′ : List ℤ) → Step (stemOf loop c) 1 x x′ → Invariant c x′
   pub kept : (x : List ℤ) (ys : List (List ℤ)) → Invariant c x → Run loop x ys → Each (Invariant c) ys
   pub from-invariant : Bounds loop (Invariant c) r δ0 δ
-  pub after-stem : Bounds loop (AfterStem loop c) r δ0 δ
+  pub steps-after-stem : (x x′ : List ℤ) (ys : List (List ℤ)) → Step (stemOf loop c) 1 x x′ → Run loop x′ ys → length ys ≤ bound r δ0 δ x′
+  pub ends-after-stem : (x : List ℤ) (state : ℕ → List ℤ) → Step (stemOf loop c) 1 x (state 0) → Endless loop state → ⊥

@@ -78,3 +78,54 @@ S14-loop = over 1 (row (negsuc 0 ∷ []) (pos 0 ∷ []) (pos 0) ∷ row (negsuc 
 
 unfoldable pub S14 : Ranking
 S14 = ranking (1 ∷ 0 ∷ []) (0 ∷ 1 ∷ [])
+
+-- a loop that runs for ever from every state: x′ >= x + 1
+unfoldable pub upward : Loop
+upward = over 1 (row (pos 1 ∷ []) (negsuc 0 ∷ []) (negsuc 0) ∷ [])
+
+-- ---- loops and certificates in which no two numbers of one form are alike
+
+-- -5x + 8y - 2x′ + y′ <= -3; 5x - 7y + 2x′ + 4y′ <= 2; -4x + 6y + 3x′ - 9y′ <= -1, and Y (6, 3, 2), Z (4, 5, 7)
+unfoldable pub unlike-loop : Loop
+unlike-loop =
+    over 2
+    (row (negsuc 4 ∷ pos 8 ∷ []) (negsuc 1 ∷ pos 1 ∷ []) (negsuc 2) ∷
+    row (pos 5 ∷ negsuc 6 ∷ []) (pos 2 ∷ pos 4 ∷ []) (pos 2) ∷
+    row (negsuc 3 ∷ pos 6 ∷ []) (pos 3 ∷ negsuc 8 ∷ []) (negsuc 0) ∷ [])
+
+unfoldable pub unlike-ranking : Ranking
+unlike-ranking = ranking (6 ∷ 3 ∷ 2 ∷ []) (4 ∷ 5 ∷ 7 ∷ [])
+
+-- x′ = 2x + y - 3 and y′ = x - y - 5, each as two rows, and q 1, U (1, 8), V (3, -5), W (7, -3)
+unfoldable pub excluded-loop : Loop
+excluded-loop =
+    over 2
+    (row (negsuc 1 ∷ negsuc 0 ∷ []) (pos 1 ∷ pos 0 ∷ []) (negsuc 2) ∷
+    row (pos 2 ∷ pos 1 ∷ []) (negsuc 0 ∷ pos 0 ∷ []) (pos 3) ∷
+    row (negsuc 0 ∷ pos 1 ∷ []) (pos 0 ∷ pos 1 ∷ []) (negsuc 4) ∷
+    row (pos 1 ∷ negsuc 0 ∷ []) (pos 0 ∷ negsuc 0 ∷ []) (pos 5) ∷ [])
+
+unfoldable pub unlike-exclusion : Exclusion
+unlike-exclusion = record { q = 1; U = pos 1 ∷ pos 8 ∷ []; «V» = pos 3 ∷ negsuc 4 ∷ []; W = pos 7 ∷ negsuc 2 ∷ [] }
+
+-- a lasso with two stem rows
+unfoldable pub lasso-loop : Loop
+lasso-loop =
+    over 2
+    (row (pos 18 ∷ pos 2 ∷ []) (pos 6 ∷ negsuc 17 ∷ []) (negsuc 19) ∷
+    row (negsuc 12 ∷ pos 4 ∷ []) (pos 1 ∷ pos 17 ∷ []) (pos 9) ∷
+    row (negsuc 9 ∷ negsuc 13 ∷ []) (negsuc 15 ∷ pos 8 ∷ []) (pos 4) ∷ [])
+
+unfoldable pub unlike-lasso : Lasso
+unlike-lasso =
+    record {
+      stem = row (pos 3 ∷ negsuc 8 ∷ []) (negsuc 0 ∷ pos 1 ∷ []) (pos 10) ∷ row (negsuc 3 ∷ pos 12 ∷ []) (negsuc 9 ∷ pos 10 ∷ []) (pos 15) ∷ [];
+      s = pos 2 ∷ negsuc 1 ∷ [];
+      s0 = pos 5;
+      k = 17;
+      T = pos 4 ∷ pos 3 ∷ [];
+      k2 = 10;
+      H = pos 18 ∷ pos 16 ∷ pos 9 ∷ [];
+      h0 = 13;
+      ranking = ranking (14 ∷ 12 ∷ 6 ∷ 15 ∷ []) (11 ∷ 8 ∷ 5 ∷ 19 ∷ []);
+    }

@@ -9,7 +9,7 @@ use Rattle.theory.specs.Loops.{Loop, over}
 use Rattle.theory.specs.Rankings.{Ranking, rank, start, fall, bound}
 use Rattle.theory.specs.Lassos.{longer}
 use Rattle.theory.specs.Conditions.{rankingTold, exclusionTold, lassoTold, rankingTests, exclusionTests, lassoTests, _at-each_unless_, of}
-use Rattle.theory.specs.Samples.{row, ranking, excluding, lasso, P, S1, S7-loop, S7, S9-loop, S10-loop, S10-stem, S10-ranking, S10, S14-loop, S14}
+use Rattle.theory.specs.Samples.{row, ranking, excluding, lasso, P, S1, S7-loop, S7, S9-loop, S10-loop, S10-stem, S10-ranking, S10, S14-loop, S14, unlike-loop, unlike-ranking, excluded-loop, unlike-exclusion, lasso-loop, unlike-lasso}
 
 unfoldable pub told : List (Told × Told)
 told =
@@ -54,6 +54,13 @@ told =
       refused 46 0,
     ) ∷
     (lassoTold S10-loop (lasso S10-stem (negsuc 0) 1 (1 ∷ []) 1 (0 ∷ 0 ∷ 1 ∷ []) 1 (ranking (1 ∷ 0 ∷ 0 ∷ 0 ∷ []) (0 ∷ 1 ∷ 0 ∷ 0 ∷ []))), refused 22 1) ∷
+    -- k and k2 apart: T doubled goes with k doubled, and with no other
+    (lassoTold S10-loop (lasso S10-stem (negsuc 0) 2 (2 ∷ []) 1 (0 ∷ 0 ∷ 1 ∷ []) 1 S10-ranking), done) ∷
+    (lassoTold S10-loop (lasso S10-stem (negsuc 0) 1 (2 ∷ []) 2 (0 ∷ 0 ∷ 1 ∷ []) 1 S10-ranking), refused 42 1) ∷
+    -- no two numbers of one form alike
+    (rankingTold unlike-loop unlike-ranking, done) ∷
+    (exclusionTold excluded-loop unlike-exclusion, done) ∷
+    (lassoTold lasso-loop unlike-lasso, done) ∷
     []
 
 -- rank, start, fall, a state and the bound there
@@ -80,10 +87,13 @@ computed =
     (numbers S14-loop S14 (pos 0 ∷ []), record { r = pos 1 ∷ []; δ0 = pos 0; δ = pos 2; at-x = 1 }) ∷
     (numbers S14-loop S14 (pos 1 ∷ []), record { r = pos 1 ∷ []; δ0 = pos 0; δ = pos 2; at-x = 1 }) ∷
     (numbers S14-loop S14 (pos 2 ∷ []), record { r = pos 1 ∷ []; δ0 = pos 0; δ = pos 2; at-x = 2 }) ∷
+    -- no two numbers of one form alike
+    (numbers unlike-loop unlike-ranking (pos 9 ∷ pos 4 ∷ []), record { r = pos 23 ∷ negsuc 38 ∷ []; δ0 = pos 14; δ = pos 9; at-x = 5 }) ∷
+    (numbers (longer lasso-loop unlike-lasso) (unlike-lasso .ranking) (negsuc 9 ∷ negsuc 9 ∷ []), record { r = negsuc 5 ∷ negsuc 21 ∷ []; δ0 = pos 73; δ = pos 33; at-x = 7 }) ∷
     []
 
 -- opens all that the tables compute with
 unfoldable pub computing : Unit {0}
 unfolding
-    told computed rankingTold exclusionTold lassoTold rankingTests exclusionTests lassoTests _at-each_unless_ of first tabulate sum dot scale add less rank start fall bound P S1 S7-loop S7 S9-loop S10-loop S10 S14-loop S14
+    told computed rankingTold exclusionTold lassoTold rankingTests exclusionTests lassoTests _at-each_unless_ of first tabulate sum dot scale add less rank start fall bound P S1 S7-loop S7 S9-loop S10-loop S10 S14-loop S14 unlike-loop unlike-ranking excluded-loop unlike-exclusion lasso-loop unlike-lasso
 computing = tt
