@@ -8,3 +8,4 @@ pub mod ReadThenWrite
 pub mod Refusals
 pub mod WriteAccepts
 pub mod WriteThenRead
+pub mod NamedParts

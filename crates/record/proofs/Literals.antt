@@ -10,7 +10,7 @@ use lib.IntN.{ℤ, pos}
 use lib.ListN.{length, replicate}
 use Rattle.record.specs.Computing.{computing}
 use Rattle.record.specs.Readers.{Reader, loop-reader, certificate-reader, reads, fills}
-use Rattle.record.specs.Samples.{Sample, P, S1, S7, S10}
+use Rattle.record.specs.Samples.{Sample, P, S1, S7, S10, unlike-loop, unlike-ranking, unlike-exclusion, unlike-lasso}
 use Rattle.record.specs.Writers.{writer, writes, room-after}
 
 -- a list that is lent to the reader, and a room that is lent to the writer, with what stands in them before
@@ -39,6 +39,7 @@ abbrev pub Each : List Sample → Type 0
 Each [] = Unit {0}
 Each (s ∷ ss) = Reads s × Writes s × Each ss
 
-pub literal-bytes : Each (P ∷ S1 ∷ S7 ∷ S10 ∷ [])
-unfolding computing P S1 S7 S10
-literal-bytes = ((refl, refl), (refl, refl), ((refl, refl), (refl, refl), ((refl, refl), (refl, refl), ((refl, refl), (refl, refl), tt))))
+pub literal-bytes : Each (P ∷ S1 ∷ S7 ∷ S10 ∷ unlike-loop ∷ unlike-ranking ∷ unlike-exclusion ∷ unlike-lasso ∷ [])
+unfolding computing P S1 S7 S10 unlike-loop unlike-ranking unlike-exclusion unlike-lasso
+literal-bytes =
+    ((refl, refl), (refl, refl), ((refl, refl), (refl, refl), ((refl, refl), (refl, refl), ((refl, refl), (refl, refl), ((refl, refl), (refl, refl), ((refl, refl), (refl, refl), ((refl, refl), (refl, refl), ((refl, refl), (refl, refl), tt))))))))

@@ -22,7 +22,7 @@ use Rattle.refusal.proofs.TestLaws.{number-avoided}
 use Rattle.verdict.proofs.StageLaws.{silent-said}
 use Rattle.theory.specs.Exclusions as Exclusions
 use Rattle.theory.specs.Lassos as Lassos
-use Rattle.theory.specs.Loops.{Loop, Run}
+use Rattle.theory.specs.Loops.{Loop, Step, Run}
 use Rattle.theory.specs.Rankings as Rankings
 use Rattle.theory.proofs.ExclusionTheorems.{exclusion-excludes, not-both}
 use Rattle.theory.proofs.LassoTheorems.{lasso-bounds-runs}
@@ -173,10 +173,11 @@ module _ (l c : List ℕ) (state : List ℤ) where
       rw (lasso-bound-is b e h) (lasso-promise (b .records) (a .both-sound .certificate-sound) e (a .holds) .from-invariant .steps state ys (a .starts) run)
 
   -- the x' of a stem step is never refused with 11
-  pub after-stem-never-11 : kind-of (b .records) ≡ lasso → Lassos.AfterStem (loop-in (b .records .loop-is)) (lasso-in (b .records .certificate-is)) state
+  pub after-stem-never-11 : kind-of (b .records) ≡ lasso
+      → (x : List ℤ) → Step (Lassos.stemOf (loop-in (b .records .loop-is)) (lasso-in (b .records .certificate-is))) 1 x state
       → bounds b .verdict .number ≡ 11 → ⊥
   unfolding bounding sound state-tests conditions bound-of number
-  after-stem-never-11 e after h =
+  after-stem-never-11 e x after h =
       silent-said 11 bounding b (λ z. omega arith) (
         number-avoided 11 sound (b .records .loop-is) (λ z. omega arith) refl,
         λ loop-sound. (
@@ -188,7 +189,7 @@ module _ (l c : List ℕ) (state : List ℤ) where
               λ conditions-done. (
                 λ told-11.
                     let holds = lasso-conditions (b .records) e .0 conditions-done in
-                    let meets = lasso-promise (b .records) certificate-sound e holds .started state after in
+                    let meets = lasso-promise (b .records) certificate-sound e holds .started x state after in
                     absurd (let z : 0 ≡ 11 = sym (ap number (invariant-holds b e .1 meets)) ∙ told-11 in omega arith),
                 λ told-done. tt,
               ),

@@ -10,3 +10,4 @@ pub mod SumsFit
 pub mod SumsFitInBytes
 pub mod VerdictEdges
 pub mod WrongJudges
+pub mod UnlikeSamples

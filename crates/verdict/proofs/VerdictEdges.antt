@@ -46,10 +46,10 @@ wrong ((call gives number at place of about) ∷ es) =
 
 -- S10 with another T, and with another h0: an invariant kept but never started, and one kept only by the added row's own weight
 unfoldable pub never-started : List ℕ
-never-started = lasso-bytes 2 3 (S10-parts (pos 0) (pos 1))
+never-started = lasso-bytes 2 3 (S10-parts (pos 1) (pos 0) (pos 1) (pos 1))
 
 unfoldable pub kept-by-itself : List ℕ
-kept-by-itself = lasso-bytes 2 3 (S10-parts (pos 1) (pos 0))
+kept-by-itself = lasso-bytes 2 3 (S10-parts (pos 1) (pos 1) (pos 1) (pos 0))
 
 -- judging: each refusal of the loop record, then of the certificate; neighbours; rank lists of n - 1, n and n + 1
 unfoldable pub judging-edges : List Edge

@@ -113,18 +113,55 @@ S14 = ranking-bytes 1 (pos 1 ∷ pos 0 ∷ []) (pos 0 ∷ pos 1 ∷ [])
 unfoldable pub second-of-P : List ℕ
 second-of-P = ranking-bytes 2 (pos 1 ∷ pos 0 ∷ pos 0 ∷ []) (pos 0 ∷ pos 1 ∷ pos 0 ∷ [])
 
--- S10's parts with a T and an h0 of one's own; S10 itself has 1 and 1
-unfoldable pub S10-parts : ℤ → ℤ → Lasso-parts
-S10-parts T h0 =
+-- S10's parts with k, T, k2 and h0 of one's own; S10 itself has 1 in each
+unfoldable pub S10-parts : ℤ → ℤ → ℤ → ℤ → Lasso-parts
+S10-parts k T k2 h0 =
     record {
       stem = row (pos 0 ∷ pos 0 ∷ []) (pos 0 ∷ − 1 ∷ []) (− 1) ∷ [];
       s = pos 0 ∷ pos 1 ∷ [];
       s0 = − 1;
-      k = pos 1;
+      k = k;
       T = T ∷ [];
-      k2 = pos 1;
+      k2 = k2;
       H = pos 0 ∷ pos 0 ∷ pos 1 ∷ [];
       h0 = h0;
       Y = pos 1 ∷ pos 0 ∷ pos 0 ∷ pos 0 ∷ [];
       Z = pos 0 ∷ pos 1 ∷ pos 0 ∷ pos 1 ∷ [];
     }
+
+-- S10 with k, T and k2
+unfoldable pub S10-scaled : ℕ → ℕ → ℕ → List ℕ
+S10-scaled k T k2 = lasso-bytes 2 3 (S10-parts (pos k) (pos T) (pos k2) (pos 1))
+
+-- ---- records in which no two numbers of one form are alike; crate `record` has their bytes written out
+
+unfoldable pub unlike-loop : List ℕ
+unlike-loop = Records.unlike-loop .bytes
+
+unfoldable pub unlike-ranking : List ℕ
+unlike-ranking = Records.unlike-ranking .bytes
+
+-- x' = 2x + y - 3 and y' = x - y - 5, each as two rows
+unfoldable pub excluded-loop : List ℕ
+excluded-loop =
+    loop-bytes 2
+    (row (− 2 ∷ − 1 ∷ []) (pos 1 ∷ pos 0 ∷ []) (− 3)
+    ∷ row (pos 2 ∷ pos 1 ∷ []) (− 1 ∷ pos 0 ∷ []) (pos 3)
+    ∷ row (− 1 ∷ pos 1 ∷ []) (pos 0 ∷ pos 1 ∷ []) (− 5)
+    ∷ row (pos 1 ∷ − 1 ∷ []) (pos 0 ∷ − 1 ∷ []) (pos 5)
+    ∷ [])
+
+unfoldable pub unlike-exclusion : List ℕ
+unlike-exclusion = Records.unlike-exclusion .bytes
+
+-- 18x + 2y + 6x' - 18y' <= -20; -13x + 4y + x' + 17y' <= 9; -10x - 14y - 16x' + 8y' <= 4
+unfoldable pub lasso-loop : List ℕ
+lasso-loop =
+    loop-bytes 2
+    (row (pos 18 ∷ pos 2 ∷ []) (pos 6 ∷ − 18 ∷ []) (− 20)
+    ∷ row (− 13 ∷ pos 4 ∷ []) (pos 1 ∷ pos 17 ∷ []) (pos 9)
+    ∷ row (− 10 ∷ − 14 ∷ []) (− 16 ∷ pos 8 ∷ []) (pos 4)
+    ∷ [])
+
+unfoldable pub unlike-lasso : List ℕ
+unlike-lasso = Records.unlike-lasso .bytes
