@@ -1,6 +1,6 @@
 #!/usr/bin/env bash
 # Builds and runs everything that stands around the archive: the C header and example, the Rust wrapper, and the second
-# opinion with its generated cases.
+# opinion with its generated cases; and whether the proved table of exchanges leaves none out.
 #
 #     tests/run.sh [FOLDER]
 #
@@ -62,6 +62,13 @@ second_opinion() {
   cargo_in tests run --release --offline --locked -- --cases "${CASES:-400000}" --seed "${SEED:-1}"
 }
 
+# The proved table of exchanges has every pair of fields and lists, with the answers that 01 gives.
+exchanges() {
+  there python3 || return 1
+  tests/exchanges.py check
+}
+
+part "exchanges, none left out" 1 exchanges
 part "c example" 0 c_example
 part "rust wrapper" 0 rust_wrapper
 part "second opinion, the paper's samples" 0 second_opinion_samples

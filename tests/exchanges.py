@@ -1,0 +1,294 @@
+#!/usr/bin/env python3
+"""Records in which no two numbers of one form are alike, and what judging answers when two of their fields, or two of their
+lists, are exchanged.
+
+    tests/exchanges.py table           the lines of the proved table
+    tests/exchanges.py check           whether crates/verdict_exchanges/specs/Exchanged.antt has these lines and no others
+    tests/exchanges.py sheet KIND      a sheet: the loop, the certificate of that kind, and every exchanged one
+    tests/exchanges.py text KIND       the text that the sheet must have
+
+The places of the fields, and the answers, are worked out here from 01 alone: every pair of fields of one form and every
+pair of lists of one length is there, so that none is left out of the table. KIND is ranking, exclusion or lasso.
+"""
+import itertools
+import os
+import sys
+
+# ---- the records, by the names of 01
+
+LOOP = {"A": [[-5, 8], [5, -7], [-4, 6]], "A'": [[-2, 1], [2, 4], [3, -9]], "b": [-3, 2, -1]}
+RANKING = {"Y": [6, 3, 2], "Z": [4, 5, 7]}
+
+# x' = 2x + y - 3, y' = x - y - 5, each as two rows
+ENDLESS_LOOP = {
+    "A": [[-2, -1], [2, 1], [-1, 1], [1, -1]],
+    "A'": [[1, 0], [-1, 0], [0, 1], [0, -1]],
+    "b": [-3, 3, -5, 5],
+}
+EXCLUSION = {"q": 1, "U": [1, 8], "V": [3, -5], "W": [7, -3]}
+
+LASSO_LOOP = {"A": [[18, 2], [-13, 4], [-10, -14]], "A'": [[6, -18], [1, 17], [-16, 8]], "b": [-20, 9, 4]}
+LASSO = {
+    "B": [[3, -9], [-4, 12]], "B'": [[-1, 1], [-10, 10]], "d": [10, 15],
+    "s": [2, -2], "s0": 5, "k": 17, "T": [4, 3], "k2": 10, "H": [18, 16, 9], "h0": 13,
+    "Y": [14, 12, 6, 15], "Z": [11, 8, 5, 19],
+}
+
+# ---- layouts: a list of (name, form, numbers) in 01's order, after length and kind
+
+WIDTH = {"u16": 2, "i16": 2, "i32": 4}
+
+
+def rows_layout(A, A_, b, names):
+    parts = []
+    for i, (now, then, right) in enumerate(zip(A, A_, b), 1):
+        parts += [(names[0] + str(i), "i16", now), (names[1] + str(i), "i16", then), (names[2] + str(i), "i32", [right])]
+    return parts
+
+
+def layout(kind, c):
+    if kind == 1:
+        return [("n", "u16", [len(c["A"][0])]), ("m", "u16", [len(c["b"])])] + rows_layout(c["A"], c["A'"], c["b"], ("A", "A'", "b"))
+    if kind == 2:
+        return [("Y", "u16", c["Y"]), ("Z", "u16", c["Z"])]
+    if kind == 3:
+        return [("q", "u16", [c["q"]])] + [(name, "i32", c[name]) for name in "UVW"]
+    return (
+        [("ms", "u16", [len(c["d"])])]
+        + rows_layout(c["B"], c["B'"], c["d"], ("B", "B'", "d"))
+        + [("s", "i16", c["s"]), ("s0", "i32", [c["s0"]]), ("k", "u16", [c["k"]]), ("T", "u16", c["T"]),
+           ("k2", "u16", [c["k2"]]), ("H", "u16", c["H"]), ("h0", "u16", [c["h0"]]), ("Y", "u16", c["Y"]), ("Z", "u16", c["Z"])]
+    )
+
+
+def record(kind, c):
+    body = b"".join((z % 2 ** (8 * WIDTH[form])).to_bytes(WIDTH[form], "little") for _, form, zs in layout(kind, c) for z in zs)
+    return (2 + len(body)).to_bytes(4, "little") + kind.to_bytes(2, "little") + body
+
+
+def pairs(kind, c):
+    """(width, first place, second place) of every two fields of one form, then of every two lists of one length and form, rows among them."""
+    fields, lists, at = [], [], 6
+    for name, form, zs in layout(kind, c):
+        if len(zs) > 1 or name in ("Y", "Z", "T", "H", "U", "V", "W", "s"):
+            lists.append((form, len(zs), at))
+        for _ in zs:
+            fields.append((form, at))
+            at += WIDTH[form]
+    row = 4 * len((c.get("A") or c.get("B") or [[]])[0]) + 4
+    first = {1: 10, 4: 8}.get(kind)
+    rows = [("row", 1, first + row * i) for i in range(len(c.get("b") or c.get("d") or []))] if first else []
+    for (f, p), (g, q) in itertools.combinations(fields, 2):
+        if f == g:
+            yield WIDTH[f], p, q
+    for (f, a, p), (g, b, q) in itertools.combinations(lists, 2):
+        if (f, a) == (g, b) and a > 1:
+            yield a * WIDTH[f], p, q
+    for (_, _, p), (_, _, q) in itertools.combinations(rows, 2):
+        yield row, p, q
+
+
+def exchanged(data, width, p, q):
+    return data[:p] + data[q:q + width] + data[p + width:q] + data[p:p + width] + data[q + width:]
+
+
+# ---- 01's judge, as plainly as it can be written: (number, place, record) of a refusal, or the outcome of an acceptance
+
+
+class Refused(Exception):
+    pass
+
+
+def number(data, at, form):
+    z = int.from_bytes(data[at:at + WIDTH[form]], "little")
+    half = 2 ** (8 * WIDTH[form] - 1)
+    return z - 2 * half if form != "u16" and z >= half else z
+
+
+RANGE = {"entry": (-30000, 30000), "right": (-1000000, 1000000), "multiplier": (0, 60000), "scale": (1, 60000), "direction": (-60000, 60000)}
+FORM = {"entry": "i16", "right": "i32", "multiplier": "u16", "scale": "u16", "direction": "i32"}
+
+
+def take(data, at, what, count, about):
+    zs = []
+    for i in range(count):
+        place = at + i * WIDTH[FORM[what]]
+        z = number(data, place, FORM[what])
+        least, most = RANGE[what]
+        if not least <= z <= most:
+            raise Refused(6, place, about)
+        zs.append(z)
+    return zs, at + count * WIDTH[FORM[what]]
+
+
+def take_rows(data, at, n, count, about):
+    rows = []
+    for _ in range(count):
+        now, at = take(data, at, "entry", n, about)
+        then, at = take(data, at, "entry", n, about)
+        right, at = take(data, at, "right", 1, about)
+        rows.append((now, then, right[0]))
+    return rows, at
+
+
+def loop_of(data):
+    n, m = number(data, 6, "u16"), number(data, 8, "u16")
+    if not 1 <= n <= 16:
+        raise Refused(5, 6, 1)
+    if m > 64:
+        raise Refused(5, 8, 1)
+    if len(data) - 4 != 6 + m * (4 * n + 4):
+        raise Refused(3, 0, 1)
+    return n, take_rows(data, 10, n, m, 1)[0]
+
+
+def total(weights, numbers):
+    return sum(y * e for y, e in zip(weights, numbers))
+
+
+def ranked(n, rows, Y, Z):
+    A = [[r[0][j] for r in rows] for j in range(n)]
+    then = [[r[1][j] for r in rows] for j in range(n)]
+    b = [r[2] for r in rows]
+    for j in range(n):
+        if total(Y, then[j]) != 0 or total(Y, A[j]) != total(Z, A[j]) or total(Z, A[j]) + total(Z, then[j]) != 0:
+            raise Refused(8, 0, 2)
+    if total(Z, b) >= 0:
+        raise Refused(8, 0, 2)
+    return [total(Z, then[j]) for j in range(n)], -total(Y, b), -total(Z, b)
+
+
+def judge(loop, certificate):
+    try:
+        n, rows = loop_of(loop)
+        m, kind = len(rows), number(certificate, 4, "u16")
+        if kind == 2:
+            Y, at = take(certificate, 6, "multiplier", m, 2)
+            Z, at = take(certificate, at, "multiplier", m, 2)
+            return ("rank",) + ranked(n, rows, Y, Z)
+        if kind == 3:
+            (q,), at = take(certificate, 6, "scale", 1, 2)
+            U, at = take(certificate, at, "direction", n, 2)
+            V, at = take(certificate, at, "direction", n, 2)
+            W, at = take(certificate, at, "direction", n, 2)
+            before = [w - v for w, v in zip(W, V)]
+            for now, then, right in rows:
+                if total(now, V) + total(then, U) > 0 or total(now, before) + total(then, W) > q * right:
+                    raise Refused(8, 0, 2)
+            return ("excluded", "whole" if q == 1 else "fractions")
+        ms = number(certificate, 6, "u16")
+        if ms > 64:
+            raise Refused(5, 6, 2)
+        if len(certificate) - 4 != 18 + 2 * n + ms * (4 * n + 6) + 6 * m:
+            raise Refused(3, 0, 2)
+        stem, at = take_rows(certificate, 8, n, ms, 2)
+        s, at = take(certificate, at, "entry", n, 2)
+        (s0,), at = take(certificate, at, "right", 1, 2)
+        (k,), at = take(certificate, at, "scale", 1, 2)
+        T, at = take(certificate, at, "multiplier", ms, 2)
+        (k2,), at = take(certificate, at, "scale", 1, 2)
+        H, at = take(certificate, at, "multiplier", m, 2)
+        (h0,), at = take(certificate, at, "multiplier", 1, 2)
+        Y, at = take(certificate, at, "multiplier", m + 1, 2)
+        Z, at = take(certificate, at, "multiplier", m + 1, 2)
+        for j in range(n):
+            if total(T, [r[0][j] for r in stem]) != 0 or total(T, [r[1][j] for r in stem]) != -k * s[j]:
+                raise Refused(8, 0, 2)
+            if total(H, [r[0][j] for r in rows]) != h0 * s[j] or total(H, [r[1][j] for r in rows]) != -k2 * s[j]:
+                raise Refused(8, 0, 2)
+        if total(T, [r[2] for r in stem]) > k * s0 or total(H, [r[2] for r in rows]) + h0 * s0 > k2 * s0:
+            raise Refused(8, 0, 2)
+        return ("lasso",) + ranked(n, rows + [([-z for z in s], [0] * n, s0)], Y, Z)
+    except Refused as refusal:
+        return ("refused",) + refusal.args
+
+
+# ---- the table
+
+CASES = {
+    "loop": (record(1, LOOP), record(2, RANKING), 1, 1, LOOP),
+    "ranking": (record(1, LOOP), record(2, RANKING), 2, 2, RANKING),
+    "exclusion": (record(1, ENDLESS_LOOP), record(3, EXCLUSION), 2, 3, EXCLUSION),
+    "lasso": (record(1, LASSO_LOOP), record(4, LASSO), 2, 4, LASSO),
+}
+
+
+def judged(case, width, p, q):
+    loop, certificate, which, _, _ = CASES[case]
+    if which == 1:
+        return judge(exchanged(loop, width, p, q), certificate)
+    return judge(loop, exchanged(certificate, width, p, q))
+
+
+def whole(z):
+    return f"(pos {z})" if z >= 0 else f"(− {-z})"
+
+
+def line(width, p, q, answer):
+    if answer[0] == "refused":
+        return f"({width} bytes-at {p} and {q} refused {answer[1]} at {answer[2]} of {answer[3]})"
+    if answer[0] == "excluded":
+        return f"({width} bytes-at {p} and {q} show Exclusion {answer[1].capitalize()})"
+    name = {"rank": "Ranking", "lasso": "Lasso"}[answer[0]]
+    return f"({width} bytes-at {p} and {q} show {name} {whole(answer[2])} {whole(answer[3])})"
+
+
+def table():
+    for case in CASES:
+        yield f"{case}-exchanges ="
+        accepted = judge(*CASES[case][:2])
+        assert accepted[0] != "refused", (case, accepted)
+        lines = []
+        for width, p, q in pairs(*CASES[case][3:]):
+            answer = judged(case, width, p, q)
+            assert answer != accepted, (case, width, p, q)
+            lines.append(line(width, p, q, answer))
+        yield "    " + lines[0]
+        yield from ("    ∷ " + l for l in lines[1:])
+        yield "    ∷ []"
+
+
+def check():
+    path = os.path.join(os.path.dirname(__file__), "..", "crates", "verdict_exchanges", "specs", "Exchanged.antt")
+    with open(path, encoding="utf-8") as f:
+        have = f.read().splitlines()
+    have = [l for l in have if " bytes-at " in l or l.endswith("-exchanges =")]
+    want = [l for l in table() if l.strip() != "∷ []"]
+    for a, b in itertools.zip_longest(have, want):
+        if a != b:
+            sys.exit(f"{path}\nhas    {a}\nwanted {b}")
+    print(f"{sum(' bytes-at ' in l for l in want)} exchanges, none left out")
+
+
+def records_of(case):
+    loop, certificate, _, kind, c = CASES[case]
+    yield certificate
+    for width, p, q in pairs(kind, c):
+        yield exchanged(certificate, width, p, q)
+
+
+def words(count, answer):
+    if answer[0] == "refused":
+        return f"{count} refused {answer[1]} {answer[2]}"
+    if answer[0] == "excluded":
+        return f"{count} excluded {answer[1]}"
+    return f"{count} {answer[0]} {' '.join(map(str, answer[1]))} from {answer[2]} down {answer[3]}"
+
+
+def main():
+    if sys.argv[1:] == ["table"]:
+        print("\n".join(table()))
+    elif sys.argv[1:] == ["check"]:
+        check()
+    elif len(sys.argv) == 3 and sys.argv[1] == "sheet":
+        sys.stdout.buffer.write(CASES[sys.argv[2]][0] + b"".join(records_of(sys.argv[2])))
+    elif len(sys.argv) == 3 and sys.argv[1] == "text":
+        loop = CASES[sys.argv[2]][0]
+        print("loop", *(number(loop, at, "u16") for at in (6, 8)))
+        for count, certificate in enumerate(records_of(sys.argv[2]), 1):
+            print(words(count, judge(loop, certificate)))
+    else:
+        sys.exit(__doc__)
+
+
+main()
