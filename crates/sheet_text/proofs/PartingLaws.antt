@@ -7,7 +7,7 @@ use native.Mathlib.Omega.{arith}
 use lib.ListN.{length, length-take, length-drop}
 use lib.Seq.{drop-length}
 use borrow.Author.Tests.{le-leb, lt-leb, leb-true}
-use Rattle.refusal.proofs.TestLaws.{either, both-true}
+use Rattle.refusal.proofs.TestLaws.{either, both-true, true-both}
 use Rattle.sheet_text.specs.Parting.{stated, whole-first, taken, first-record, after-first, up-to, records}
 
 -- ---- how many bytes the first record takes, test by test
@@ -29,14 +29,18 @@ module _ (input : List ℕ) where
   unfolding taken whole-first
   taken-whole enough two all = rw (le-leb 4 (length input) enough, le-leb 2 (stated input) two, le-leb (4 + stated input) (length input) all)
 
-  whole-passes : whole-first input ≡ true → (4 ≤ length input) × (2 ≤ stated input) × (4 + stated input ≤ length input)
+  pub whole-passes : whole-first input ≡ true → (4 ≤ length input) × (2 ≤ stated input) × (4 + stated input ≤ length input)
   unfolding whole-first
   whole-passes e =
       let four = both-true _ _ e in
       let two = both-true _ _ (four .1) in
       (leb-true _ _ (four .0), leb-true _ _ (two .0), leb-true _ _ (two .1))
 
-  not-whole : whole-first input ≡ false → taken input ≡ length input
+  pub passes-whole : 4 ≤ length input → 2 ≤ stated input → 4 + stated input ≤ length input → whole-first input ≡ true
+  unfolding whole-first
+  passes-whole four two all = true-both _ _ (le-leb _ _ four) (true-both _ _ (le-leb _ _ two) (le-leb _ _ all))
+
+  pub not-whole : whole-first input ≡ false → taken input ≡ length input
   unfolding taken
   not-whole e = rw e
 

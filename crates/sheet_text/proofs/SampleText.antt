@@ -4,7 +4,7 @@ use mathlib.Core.Path.{_≡_, refl, ap}
 use Prim.Native.Nat.{ℕ, suc}
 use mathlib.Core.List.{List, [], _∷_, _++_}
 use native.Mathlib.Omega.{arith}
-use lib.ListN.{length}
+use lib.ListN.{length, drop}
 use Rattle.record.specs.Contents.{rows-values, row-values, ranking-values, exclusion-values}
 use Rattle.record.specs.Samples as Records
 use Rattle.decimal.specs.Decimals.{decimal}
@@ -29,15 +29,17 @@ pub other-lines :
 unfolding computing ends-without-rank with-stem S7 S8 S10 S11 Records.S7 Records.S10 loop-bytes rows-values row-values exclusion-bytes exclusion-values
 other-lines = (refl, refl)
 
--- no input, no certificate, a certificate of one byte, an L below 2 that takes all the rest, and a loop that is refused before a certificate
+-- no input, no certificate, a certificate of one byte, an L below 2 that takes all the rest, an L of 65,550 (of which the lower two bytes are S1's) that does
+-- too, and a loop that is refused before a certificate
 pub edge-lines :
     (sheet-text [] ≡ bytes "loop refused 1 0\n")
     × (sheet-text P ≡ bytes "loop 2 3\n")
     × (sheet-text (P ++ (14 ∷ [])) ≡ bytes "loop 2 3\n1 refused 1 1\n")
     × (sheet-text (P ++ (S1 ++ (1 ∷ 0 ∷ 0 ∷ 0 ∷ S1))) ≡ bytes "loop 2 3\n1 rank 1 -1 from 2 down 1\n2 refused 3 0\n")
+    × (sheet-text (P ++ (14 ∷ 0 ∷ 1 ∷ 0 ∷ drop 4 S1 ++ S1)) ≡ bytes "loop 2 3\n1 refused 1 36\n")
     × (sheet-text (S1 ++ S1) ≡ bytes "loop refused 4 4\n")
 unfolding computing P S1 Records.P Records.S1
-edge-lines = (refl, refl, refl, refl, refl)
+edge-lines = (refl, refl, refl, refl, refl, refl)
 
 -- ---- a library that judges the first certificate and repeats its line
 
