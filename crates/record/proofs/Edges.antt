@@ -74,6 +74,11 @@ unfoldable pub caught : ℕ → ℕ → ℕ → ℕ → ℕ → ℕ → ℕ → 
 caught B B′ d s s0 k T k2 =
     filed 30 4 (two 1 ++ (two B ++ (two B′ ++ (four d ++ (two s ++ (four s0 ++ (two k ++ (two T ++ (two k2 ++ (two 1 ++ (two 1 ++ two 1)))))))))))
 
+-- a lasso over one variable for one row, without a stem: H, h0, Y and Z
+unfoldable pub keeping : ℕ → ℕ → ℕ → ℕ → ℕ → ℕ → List ℕ
+keeping H h0 y y′ z z′ =
+    filed 26 4 (two 0 ++ (two 0 ++ (four 0 ++ (two 1 ++ (two 1 ++ (two H ++ (two h0 ++ (two y ++ (two y′ ++ (two z ++ two z′))))))))))
+
 -- reading: each refusal, and each pair of neighbours in "Order for a record" that one input can have
 unfoldable pub reading-order : List Edge
 reading-order =
@@ -136,14 +141,12 @@ reading-order =
 unfoldable pub ranges-read : List Edge
 ranges-read =
     (read-loop (zeros 0 0 0) 0 gives 5 at 6)
-    ∷ (read-loop (zeros 1 0 0) 0 gives 0 at 0)
     ∷ (read-loop (zeros 16 0 0) 0 gives 0 at 0)
     ∷ (read-loop (zeros 17 0 0) 0 gives 5 at 6)
     ∷ (read-loop (zeros 1 64 512) 192 gives 0 at 0)
     ∷ (read-loop (zeros 1 65 520) 195 gives 5 at 8)
     ∷ (read-loop (zeros 1 65535 0) 0 gives 5 at 8)
     ∷ (read-certificate (filed 2 2 []) 0 0 0 gives 5 at 0)
-    ∷ (read-certificate (filed 2 2 []) 1 0 0 gives 0 at 0)
     ∷ (read-certificate (filed 2 2 []) 16 0 0 gives 0 at 0)
     ∷ (read-certificate (filed 2 2 []) 17 0 0 gives 5 at 0)
     ∷ (read-certificate (filed 258 2 (replicate 256 0)) 1 64 128 gives 0 at 0)
@@ -167,7 +170,6 @@ ranges-read =
     ∷ (read-certificate (weights 60000 0) 1 1 2 gives 0 at 0)
     ∷ (read-certificate (weights 60001 0) 1 1 2 gives 6 at 6)
     ∷ (read-certificate (weights 65535 0) 1 1 2 gives 6 at 6)
-    ∷ (read-certificate (weights 0 0) 1 1 2 gives 0 at 0)
     ∷ (read-certificate (weights 0 60000) 1 1 2 gives 0 at 0)
     ∷ (read-certificate (weights 0 60001) 1 1 2 gives 6 at 8)
     ∷ (read-certificate (weights 0 65535) 1 1 2 gives 6 at 8)
@@ -211,14 +213,31 @@ ranges-read =
     ∷ (read-certificate (caught 0 0 0 0 0 1 0 1) 1 0 12 gives 0 at 0)
     ∷ (read-certificate (caught 0 0 0 0 0 60000 0 1) 1 0 12 gives 0 at 0)
     ∷ (read-certificate (caught 0 0 0 0 0 60001 0 1) 1 0 12 gives 6 at 22)
-    ∷ (read-certificate (caught 0 0 0 0 0 1 0 1) 1 0 12 gives 0 at 0)
     ∷ (read-certificate (caught 0 0 0 0 0 1 60000 1) 1 0 12 gives 0 at 0)
     ∷ (read-certificate (caught 0 0 0 0 0 1 60001 1) 1 0 12 gives 6 at 24)
     ∷ (read-certificate (caught 0 0 0 0 0 1 65535 1) 1 0 12 gives 6 at 24)
     ∷ (read-certificate (caught 0 0 0 0 0 1 0 0) 1 0 12 gives 6 at 26)
-    ∷ (read-certificate (caught 0 0 0 0 0 1 0 1) 1 0 12 gives 0 at 0)
     ∷ (read-certificate (caught 0 0 0 0 0 1 0 60000) 1 0 12 gives 0 at 0)
     ∷ (read-certificate (caught 0 0 0 0 0 1 0 60001) 1 0 12 gives 6 at 26)
+    ∷ (read-certificate (keeping 0 0 0 0 0 0) 1 1 11 gives 0 at 0)
+    ∷ (read-certificate (keeping 60000 0 0 0 0 0) 1 1 11 gives 0 at 0)
+    ∷ (read-certificate (keeping 60001 0 0 0 0 0) 1 1 11 gives 6 at 18)
+    ∷ (read-certificate (keeping 65535 0 0 0 0 0) 1 1 11 gives 6 at 18)
+    ∷ (read-certificate (keeping 0 60000 0 0 0 0) 1 1 11 gives 0 at 0)
+    ∷ (read-certificate (keeping 0 60001 0 0 0 0) 1 1 11 gives 6 at 20)
+    ∷ (read-certificate (keeping 0 65535 0 0 0 0) 1 1 11 gives 6 at 20)
+    ∷ (read-certificate (keeping 0 0 60000 0 0 0) 1 1 11 gives 0 at 0)
+    ∷ (read-certificate (keeping 0 0 60001 0 0 0) 1 1 11 gives 6 at 22)
+    ∷ (read-certificate (keeping 0 0 65535 0 0 0) 1 1 11 gives 6 at 22)
+    ∷ (read-certificate (keeping 0 0 0 60000 0 0) 1 1 11 gives 0 at 0)
+    ∷ (read-certificate (keeping 0 0 0 60001 0 0) 1 1 11 gives 6 at 24)
+    ∷ (read-certificate (keeping 0 0 0 65535 0 0) 1 1 11 gives 6 at 24)
+    ∷ (read-certificate (keeping 0 0 0 0 60000 0) 1 1 11 gives 0 at 0)
+    ∷ (read-certificate (keeping 0 0 0 0 60001 0) 1 1 11 gives 6 at 26)
+    ∷ (read-certificate (keeping 0 0 0 0 65535 0) 1 1 11 gives 6 at 26)
+    ∷ (read-certificate (keeping 0 0 0 0 0 60000) 1 1 11 gives 0 at 0)
+    ∷ (read-certificate (keeping 0 0 0 0 0 60001) 1 1 11 gives 6 at 28)
+    ∷ (read-certificate (keeping 0 0 0 0 0 65535) 1 1 11 gives 6 at 28)
     ∷ []
 
 -- writing: each refusal, and each pair of neighbours in 01's order that one input can have
@@ -280,7 +299,6 @@ ranges-written =
     ∷ (write 2 1 1 (pos 60000 ∷ pos 0 ∷ []) 10 gives 0 at 0)
     ∷ (write 2 1 1 (pos 60001 ∷ pos 0 ∷ []) 10 gives 6 at 6)
     ∷ (write 2 1 1 (pos 0 ∷ negℤ (pos 1) ∷ []) 10 gives 6 at 8)
-    ∷ (write 2 1 1 (pos 0 ∷ pos 0 ∷ []) 10 gives 0 at 0)
     ∷ (write 2 1 1 (pos 0 ∷ pos 60000 ∷ []) 10 gives 0 at 0)
     ∷ (write 2 1 1 (pos 0 ∷ pos 60001 ∷ []) 10 gives 6 at 8)
     ∷ (write 3 1 0 (pos 0 ∷ pos 0 ∷ pos 0 ∷ pos 0 ∷ []) 20 gives 6 at 6)
@@ -324,25 +342,24 @@ ranges-written =
     ∷ (write 4 1 0 (pos 1 ∷ pos 0 ∷ pos 0 ∷ pos 0 ∷ pos 0 ∷ pos 0 ∷ pos 60000 ∷ pos 0 ∷ pos 1 ∷ pos 0 ∷ pos 0 ∷ pos 0 ∷ []) 34 gives 0 at 0)
     ∷ (write 4 1 0 (pos 1 ∷ pos 0 ∷ pos 0 ∷ pos 0 ∷ pos 0 ∷ pos 0 ∷ pos 60001 ∷ pos 0 ∷ pos 1 ∷ pos 0 ∷ pos 0 ∷ pos 0 ∷ []) 34 gives 6 at 22)
     ∷ (write 4 1 0 (pos 1 ∷ pos 0 ∷ pos 0 ∷ pos 0 ∷ pos 0 ∷ pos 0 ∷ pos 1 ∷ negℤ (pos 1) ∷ pos 1 ∷ pos 0 ∷ pos 0 ∷ pos 0 ∷ []) 34 gives 6 at 24)
-    ∷ (write 4 1 0 (pos 1 ∷ pos 0 ∷ pos 0 ∷ pos 0 ∷ pos 0 ∷ pos 0 ∷ pos 1 ∷ pos 0 ∷ pos 1 ∷ pos 0 ∷ pos 0 ∷ pos 0 ∷ []) 34 gives 0 at 0)
     ∷ (write 4 1 0 (pos 1 ∷ pos 0 ∷ pos 0 ∷ pos 0 ∷ pos 0 ∷ pos 0 ∷ pos 1 ∷ pos 60000 ∷ pos 1 ∷ pos 0 ∷ pos 0 ∷ pos 0 ∷ []) 34 gives 0 at 0)
     ∷ (write 4 1 0 (pos 1 ∷ pos 0 ∷ pos 0 ∷ pos 0 ∷ pos 0 ∷ pos 0 ∷ pos 1 ∷ pos 60001 ∷ pos 1 ∷ pos 0 ∷ pos 0 ∷ pos 0 ∷ []) 34 gives 6 at 24)
     ∷ (write 4 1 0 (pos 1 ∷ pos 0 ∷ pos 0 ∷ pos 0 ∷ pos 0 ∷ pos 0 ∷ pos 1 ∷ pos 0 ∷ pos 0 ∷ pos 0 ∷ pos 0 ∷ pos 0 ∷ []) 34 gives 6 at 26)
-    ∷ (write 4 1 0 (pos 1 ∷ pos 0 ∷ pos 0 ∷ pos 0 ∷ pos 0 ∷ pos 0 ∷ pos 1 ∷ pos 0 ∷ pos 1 ∷ pos 0 ∷ pos 0 ∷ pos 0 ∷ []) 34 gives 0 at 0)
     ∷ (write 4 1 0 (pos 1 ∷ pos 0 ∷ pos 0 ∷ pos 0 ∷ pos 0 ∷ pos 0 ∷ pos 1 ∷ pos 0 ∷ pos 60000 ∷ pos 0 ∷ pos 0 ∷ pos 0 ∷ []) 34 gives 0 at 0)
     ∷ (write 4 1 0 (pos 1 ∷ pos 0 ∷ pos 0 ∷ pos 0 ∷ pos 0 ∷ pos 0 ∷ pos 1 ∷ pos 0 ∷ pos 60001 ∷ pos 0 ∷ pos 0 ∷ pos 0 ∷ []) 34 gives 6 at 26)
     ∷ (write 4 1 0 (pos 1 ∷ pos 0 ∷ pos 0 ∷ pos 0 ∷ pos 0 ∷ pos 0 ∷ pos 1 ∷ pos 0 ∷ pos 1 ∷ negℤ (pos 1) ∷ pos 0 ∷ pos 0 ∷ []) 34 gives 6 at 28)
-    ∷ (write 4 1 0 (pos 1 ∷ pos 0 ∷ pos 0 ∷ pos 0 ∷ pos 0 ∷ pos 0 ∷ pos 1 ∷ pos 0 ∷ pos 1 ∷ pos 0 ∷ pos 0 ∷ pos 0 ∷ []) 34 gives 0 at 0)
     ∷ (write 4 1 0 (pos 1 ∷ pos 0 ∷ pos 0 ∷ pos 0 ∷ pos 0 ∷ pos 0 ∷ pos 1 ∷ pos 0 ∷ pos 1 ∷ pos 60000 ∷ pos 0 ∷ pos 0 ∷ []) 34 gives 0 at 0)
     ∷ (write 4 1 0 (pos 1 ∷ pos 0 ∷ pos 0 ∷ pos 0 ∷ pos 0 ∷ pos 0 ∷ pos 1 ∷ pos 0 ∷ pos 1 ∷ pos 60001 ∷ pos 0 ∷ pos 0 ∷ []) 34 gives 6 at 28)
     ∷ (write 4 1 0 (pos 1 ∷ pos 0 ∷ pos 0 ∷ pos 0 ∷ pos 0 ∷ pos 0 ∷ pos 1 ∷ pos 0 ∷ pos 1 ∷ pos 0 ∷ negℤ (pos 1) ∷ pos 0 ∷ []) 34 gives 6 at 30)
-    ∷ (write 4 1 0 (pos 1 ∷ pos 0 ∷ pos 0 ∷ pos 0 ∷ pos 0 ∷ pos 0 ∷ pos 1 ∷ pos 0 ∷ pos 1 ∷ pos 0 ∷ pos 0 ∷ pos 0 ∷ []) 34 gives 0 at 0)
     ∷ (write 4 1 0 (pos 1 ∷ pos 0 ∷ pos 0 ∷ pos 0 ∷ pos 0 ∷ pos 0 ∷ pos 1 ∷ pos 0 ∷ pos 1 ∷ pos 0 ∷ pos 60000 ∷ pos 0 ∷ []) 34 gives 0 at 0)
     ∷ (write 4 1 0 (pos 1 ∷ pos 0 ∷ pos 0 ∷ pos 0 ∷ pos 0 ∷ pos 0 ∷ pos 1 ∷ pos 0 ∷ pos 1 ∷ pos 0 ∷ pos 60001 ∷ pos 0 ∷ []) 34 gives 6 at 30)
     ∷ (write 4 1 0 (pos 1 ∷ pos 0 ∷ pos 0 ∷ pos 0 ∷ pos 0 ∷ pos 0 ∷ pos 1 ∷ pos 0 ∷ pos 1 ∷ pos 0 ∷ pos 0 ∷ negℤ (pos 1) ∷ []) 34 gives 6 at 32)
-    ∷ (write 4 1 0 (pos 1 ∷ pos 0 ∷ pos 0 ∷ pos 0 ∷ pos 0 ∷ pos 0 ∷ pos 1 ∷ pos 0 ∷ pos 1 ∷ pos 0 ∷ pos 0 ∷ pos 0 ∷ []) 34 gives 0 at 0)
     ∷ (write 4 1 0 (pos 1 ∷ pos 0 ∷ pos 0 ∷ pos 0 ∷ pos 0 ∷ pos 0 ∷ pos 1 ∷ pos 0 ∷ pos 1 ∷ pos 0 ∷ pos 0 ∷ pos 60000 ∷ []) 34 gives 0 at 0)
     ∷ (write 4 1 0 (pos 1 ∷ pos 0 ∷ pos 0 ∷ pos 0 ∷ pos 0 ∷ pos 0 ∷ pos 1 ∷ pos 0 ∷ pos 1 ∷ pos 0 ∷ pos 0 ∷ pos 60001 ∷ []) 34 gives 6 at 32)
+    ∷ (write 4 1 1 (pos 0 ∷ pos 0 ∷ pos 0 ∷ pos 1 ∷ pos 1 ∷ pos 0 ∷ pos 0 ∷ pos 0 ∷ pos 0 ∷ pos 0 ∷ pos 0 ∷ []) 30 gives 0 at 0)
+    ∷ (write 4 1 1 (pos 0 ∷ pos 0 ∷ pos 0 ∷ pos 1 ∷ pos 1 ∷ pos 60000 ∷ pos 0 ∷ pos 0 ∷ pos 0 ∷ pos 0 ∷ pos 0 ∷ []) 30 gives 0 at 0)
+    ∷ (write 4 1 1 (pos 0 ∷ pos 0 ∷ pos 0 ∷ pos 1 ∷ pos 1 ∷ pos 60001 ∷ pos 0 ∷ pos 0 ∷ pos 0 ∷ pos 0 ∷ pos 0 ∷ []) 30 gives 6 at 18)
+    ∷ (write 4 1 1 (pos 0 ∷ pos 0 ∷ pos 0 ∷ pos 1 ∷ pos 1 ∷ negℤ (pos 1) ∷ pos 0 ∷ pos 0 ∷ pos 0 ∷ pos 0 ∷ pos 0 ∷ []) 30 gives 6 at 18)
     ∷ []
 
 -- the table
@@ -351,7 +368,7 @@ edges = reading-order ++ (ranges-read ++ (writing-order ++ ranges-written))
 
 -- no line of the table is wrong
 pub every-edge : wrong edges ≡ []
-unfolding edges computing number place tells wrong two four filed one-row zeros weights excluding caught P S1 S7 S10 reading-order ranges-read writing-order ranges-written
+unfolding edges computing number place tells wrong two four filed one-row zeros weights excluding caught keeping P S1 S7 S10 reading-order ranges-read writing-order ranges-written
 every-edge = refl
 
 -- state entries stand in no record: both ends of their range, and one past each end
