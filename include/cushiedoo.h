@@ -107,9 +107,10 @@ typedef struct {
     uint64_t place;
     uint64_t record;  /* the record it speaks of */
     uint64_t outcome; /* what was accepted */
-    int64_t start;    /* of a ranking or lasso: r.x is at least this before a step */
-    int64_t fall;     /* of a ranking or lasso: r.x falls by at least this in a step */
-    uint64_t grade;   /* of an exclusion */
+    /* Of a ranking, for every step; of a lasso, for every step from a state that meets its invariant: */
+    int64_t start;  /* r.x is at least this before the step */
+    int64_t fall;   /* r.x falls by at least this in the step */
+    uint64_t grade; /* of an exclusion */
 } cushiedoo_verdict;
 
 /* The answer of a bound: judging's, and the bound beside it. */
@@ -121,7 +122,7 @@ typedef struct {
     int64_t start;
     int64_t fall;
     uint64_t grade;
-    uint64_t bound; /* no run from the state takes more steps than this */
+    uint64_t bound; /* no run from the state takes more steps than this; a lasso's state outside its invariant gives 11 */
 } cushiedoo_bounded;
 
 /*

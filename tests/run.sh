@@ -2,12 +2,22 @@
 # Builds and runs everything that stands around the archive: the C header and example, the Rust wrapper, and the second
 # opinion with its generated cases; and whether the proved table of exchanges leaves none out.
 #
-#     tests/run.sh [FOLDER]
+#     tests/run.sh [--cases N] [--seed N] [FOLDER]
 #
 # FOLDER is the one that holds librip.a, the repository's target/staticlib unless it is named. For each part one line is
 # printed, which starts with `passed ` or `failed `; what a failed part printed follows it. The exit is not 0 if a part
-# failed. CASES and SEED in the environment set those of the second opinion.
+# failed. The second opinion compares 400,000 cases from seed 1 unless told otherwise here; nothing in the environment
+# changes that.
 set -u
+cases=400000 seed=1
+while [ $# -gt 1 ]; do
+  case $1 in
+    --cases) cases=$2 ;;
+    --seed) seed=$2 ;;
+    *) echo "failed arguments: $1"; exit 1 ;;
+  esac
+  shift 2
+done
 root=$(cd "$(dirname "$0")/.." && pwd) || exit 1
 folder=${1:-$root/target/staticlib}
 if [ ! -f "$folder/librip.a" ]; then
@@ -59,7 +69,7 @@ rust_wrapper() { cargo_in bindings/rust test --offline --locked; }
 second_opinion_samples() { cargo_in tests test --release --offline --locked; }
 
 second_opinion() {
-  cargo_in tests run --release --offline --locked -- --cases "${CASES:-400000}" --seed "${SEED:-1}"
+  cargo_in tests run --release --offline --locked -- --cases "$cases" --seed "$seed"
 }
 
 # The proved table of exchanges has every pair of fields and lists, with the answers that 01 gives.
@@ -72,5 +82,5 @@ part "exchanges, none left out" 1 exchanges
 part "c example" 0 c_example
 part "rust wrapper" 0 rust_wrapper
 part "second opinion, the paper's samples" 0 second_opinion_samples
-part "second opinion, generated cases" 9 second_opinion
+part "second opinion, $cases generated cases" 9 second_opinion
 [ "$failed" -eq 0 ]
