@@ -1,24 +1,17 @@
--- The promises of the two readers leave one possible answer: two answers, each a reading and a list afterwards, that meet a reader's
--- promise on the same bytes, arguments and list are equal.
-use mathlib.Core.Path.{_≡_, sym, _∙_}
-use Prim.Native.Nat.{ℕ}
-use mathlib.Core.List.{List}
-use lib.IntN.{ℤ}
-use Rattle.record.specs.declared.Reading.{Reading}
-use Rattle.record.specs.Readers.{Reader, loop-reader, certificate-reader, reads, fills}
+-- The promises of the two readers leave one possible answer: two answers, each a reading and a list afterwards, that meet a reader's contract on the same
+-- bytes, arguments and list are equal. The contract is the one that the check sees, `Learnt`.
+use mathlib.Core.Path.{sym, _∙_}
+use denote.Ref.{now}
+use Rattle.refusal.specs.Single.{Single}
+use Rattle.reading.proofs.read_loop.Kinds as loop-kinds
+use Rattle.reading.proofs.read_loop.Reads as loop-reads
+use Rattle.reading.proofs.read_certificate.Kinds as certificate-kinds
+use Rattle.reading.proofs.read_certificate.Reads as certificate-reads
 
--- what a reader promises of its answer
-pub record Answers (r : Reader) (lent : List ℤ) (answer : Reading) (after : List ℤ) : Type 0 where
-  pub told : answer ≡ reads r
-  pub list-told : after ≡ fills r lent
+-- lent: the list of values
+pub one-answer-loop : Single 2 loop-kinds.ps loop-kinds.r loop-reads.Learnt (λ κs s. now (s .1 .0))
+one-answer-loop κs a x y s t p q = (p .0 ∙ sym (q .0), p .1 ∙ sym (q .1))
 
-one-answer : (r : Reader) (lent : List ℤ) {a b : Reading} {l k : List ℤ} → Answers r lent a l → Answers r lent b k → (a ≡ b) × (l ≡ k)
-one-answer r lent p q = (p .told ∙ sym (q .told), p .list-told ∙ sym (q .list-told))
-
-pub one-answer-loop : (bytes : List ℕ) (lent : List ℤ) {a b : Reading} {l k : List ℤ}
-    → Answers (loop-reader bytes lent) lent a l → Answers (loop-reader bytes lent) lent b k → (a ≡ b) × (l ≡ k)
-one-answer-loop bytes lent = one-answer (loop-reader bytes lent) lent
-
-pub one-answer-certificate : (bytes : List ℕ) (n m : ℕ) (lent : List ℤ) {a b : Reading} {l k : List ℤ}
-    → Answers (certificate-reader bytes n m lent) lent a l → Answers (certificate-reader bytes n m lent) lent b k → (a ≡ b) × (l ≡ k)
-one-answer-certificate bytes n m lent = one-answer (certificate-reader bytes n m lent) lent
+-- lent: the list of values
+pub one-answer-certificate : Single 2 certificate-kinds.ps certificate-kinds.r certificate-reads.Learnt (λ κs s. now (s .1 .1 .1 .0))
+one-answer-certificate κs a x y s t p q = (p .0 ∙ sym (q .0), p .1 ∙ sym (q .1))

@@ -1,1 +1,1 @@
-// Refusals in order: definitions and laws only.
+// What every call has: refusals in order, and a promise that leaves one answer. Definitions and laws only.

@@ -1,15 +1,17 @@
--- The promise of `sheet` leaves one possible answer: whatever meets it for an input and a room is one answer, and one room afterwards.
-use mathlib.Core.Path.{_≡_, sym, _∙_}
-use Prim.Native.Nat.{ℕ}
-use mathlib.Core.List.{List}
-use Rattle.record.specs.declared.Writing.{Writing}
-use Rattle.sheet_text.specs.Sheets.{sheet-answers, room-after}
+-- The promises of `sheet` and `room_needed` leave one possible answer: two answers, of a sheet each with its room afterwards, that meet the call's contract on
+-- the same input are equal. The contract is the one that the check sees, `Learnt`.
+use mathlib.Core.Path.{refl, sym, _∙_}
+use denote.Ref.{now}
+use Rattle.refusal.specs.Single.{Single}
+use Rattle.sheet_text.proofs.sheet.Kinds as sheet-kinds
+use Rattle.sheet_text.proofs.sheet.Reads as sheet-reads
+use Rattle.sheet_text.proofs.room_needed.Kinds as room-kinds
+use Rattle.sheet_text.proofs.room_needed.Reads as room-reads
 
--- what `sheet` ensures of its answer and of the room afterwards
-pub record Sheet-promise (input room : List ℕ) (answer : Writing) (after : List ℕ) : Type 0 where
-  pub answer-is : answer ≡ sheet-answers input room
-  pub room-is : after ≡ room-after input room
+-- lent: the room for the text
+pub one-answer : Single 2 sheet-kinds.ps sheet-kinds.r sheet-reads.Learnt (λ κs s. now (s .1 .0))
+one-answer κs a x y s t p q = (p .0 ∙ sym (q .0), p .1 ∙ sym (q .1))
 
-pub one-answer : (input room : List ℕ) (answer answer′ : Writing) (after after′ : List ℕ) → Sheet-promise input room answer after → Sheet-promise input room answer′ after′
-    → (answer ≡ answer′) × (after ≡ after′)
-one-answer input room answer answer′ after after′ p q = (p .answer-is ∙ sym (q .answer-is), p .room-is ∙ sym (q .room-is))
+-- lent: nothing
+pub one-answer-room-needed : Single 0 room-kinds.ps room-kinds.r room-reads.Learnt {L = Unit {0}} (λ κs s. tt)
+one-answer-room-needed κs a x y s t p q = (p ∙ sym q, refl)
