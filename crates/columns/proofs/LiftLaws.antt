@@ -14,7 +14,7 @@ use Rattle.whole.specs.Sums.{total}
 use Rattle.whole.proofs.Size.{abs-add, abs-product, back}
 use Rattle.whole.proofs.Solve.{v, _⊕_, _⊝_, _⊗_, solve}
 use Rattle.whole.proofs.Tables.{total-none, total-more, total-same}
-use Rattle.columns.specs.Places.{entryAt, multiplierAt, rowAt, entryTerm, liftTerm, Lifts, RowAdded, nowTerm, nextTerm, AllGrow, AllModest, AllNone, SumsOf, ColumnOf, mostEntry}
+use Rattle.columns.specs.Places.{entryAt, multiplierAt, rowAt, entryTerm, liftTerm, Lifts, RowAdded, RestStays, nowTerm, nextTerm, AllGrow, AllModest, AllNone, SumsOf, ColumnOf, mostEntry}
 use Rattle.columns.specs.Running.{CanGrow, SumOf}
 use Rattle.columns.proofs.SumLaws.{sum-none, sum-more}
 
@@ -61,6 +61,13 @@ module _ (multiplier : ℕ) (rows : List ℕ) (row : ℕ) (before : List ℤ) wh
       }
 
 -- ---- all rows
+
+-- what stays past the columns: through no row, and through one row more
+pub rest-none : (width : ℕ) (sums : List ℤ) → RestStays width sums sums
+rest-none width sums = record { long = refl; stays = λ k h. refl }
+
+pub rest-more : {multiplier row width : ℕ} {rows : List ℕ} {first before after : List ℤ} → RestStays width first before → RowAdded multiplier rows row width before after → RestStays width first after
+rest-more rest row = record { long = row .long ∙ rest .long; stays = λ k h. row .stays k h ∙ rest .stays k h }
 
 module _ (multipliers : List ℕ) (place : ℕ) (rows : List ℕ) (start n : ℕ) where
   -- the lifts' total over the first rows

@@ -108,6 +108,11 @@ pub record RowAdded (multiplier : ℕ) (rows : List ℕ) (row width : ℕ) (befo
   pub added : (k : ℕ) → k < width → Lifts multiplier (entryAt rows (row + 2 * k)) (getD before k (pos 0)) (getD after k (pos 0))
   pub stays : (k : ℕ) → width ≤ k → getD after k (pos 0) ≡ getD before k (pos 0)
 
+-- a list is as long as before, and from `width` on it stays
+pub record RestStays (width : ℕ) (before after : List ℤ) : Type 0 where
+  pub long : length after ≡ length before
+  pub stays : (k : ℕ) → width ≤ k → getD after k (pos 0) ≡ getD before k (pos 0)
+
 -- the first `width` totals can grow
 abbrev pub AllGrow : ℕ → List ℤ → Type 0
 AllGrow width sums = (k : ℕ) → k < width → CanGrow (getD sums k (pos 0))

@@ -11,7 +11,7 @@ ghost use mathlib.Core.Path.{_≡_};
 ghost use lib.IntN.{pos, natAbs, _*ℤ_};
 ghost use lib.ListN.{length};
 ghost use Rattle.whole.specs.Sums.{dot, Within};
-ghost use Rattle.columns.specs.Places.{entryAt, rightAt, rightTerm, stateTerm, liftTerm, Lifts, RowAdded, AllGrow, AllNone, SumsOf, RowsIn, MultipliersIn, Visited, ColumnOf, AlongOf, directionOf, stepOf, mostEntry, mostRight, mostAlong, mostState, mostRank};
+ghost use Rattle.columns.specs.Places.{entryAt, rightAt, rightTerm, stateTerm, liftTerm, Lifts, RowAdded, RestStays, AllGrow, AllNone, SumsOf, RowsIn, MultipliersIn, Visited, ColumnOf, AlongOf, directionOf, stepOf, mostEntry, mostRight, mostAlong, mostState, mostRank};
 ghost use Rattle.columns.specs.Running.{CanGrow, Adds, SumOf};
 use whole::Total;
 
@@ -143,7 +143,7 @@ fn add_row(
 }
 
 // The totals of all columns under two lists of multipliers, in one visit of each row. The lists of
-// totals start as zeros; every entry is lifted, as `lift_of` tells.
+// totals start as zeros; every entry is lifted, as `lift_of` tells. Past the columns they stay.
 pub fn add_rows(
     ys: &mut [i64],
     zs: &mut [i64],
@@ -158,7 +158,8 @@ pub fn add_rows(
     requires { ⌜ (2 * n ≤ length (now ys)) × (2 * n ≤ length (now zs)) × AllNone (2 * n) (now ys) × AllNone (2 * n) (now zs)
         × RowsIn (now rows) start n count × MultipliersIn (now multipliers) y count × MultipliersIn (now multipliers) z count ⌝ }
     ensures { λ _. ⌜ SumsOf (now (multipliers .entry)) y (now (rows .entry)) start n count (now (ys .exit))
-        × SumsOf (now (multipliers .entry)) z (now (rows .entry)) start n count (now (zs .exit)) ⌝ }
+        × SumsOf (now (multipliers .entry)) z (now (rows .entry)) start n count (now (zs .exit))
+        × RestStays (2 * n) (now (ys .entry)) (now (ys .exit)) × RestStays (2 * n) (now (zs .entry)) (now (zs .exit)) ⌝ }
 {
     let stride = 4 * n + 4;
     let mut at = start;

@@ -1,6 +1,6 @@
 -- From the tests of the code to what they decide: signed numbers are compared by their bits, and an answer by early returns decides a conjunction.
 use Prim.Native.Nat.{ℕ, _+_, _<_}
-use mathlib.Core.Path.{_≡_, sym, ap, subst, _∙_}
+use mathlib.Core.Path.{_≡_, refl, sym, ap, subst, _∙_}
 use mathlib.Core.Bool.{Bool, true, false, false≢true}
 use native.Mathlib.Decide.{decLt}
 use native.Mathlib.Omega.{arith}
@@ -14,7 +14,7 @@ use mir.Facts.{toZ-ofZ}
 use borrow.Author.Tests.{eqb-true, eqb-false}
 use Rattle.whole.proofs.Size.{abs-add, abs-neg, fits-abs}
 use Rattle.columns.specs.Running.{CanGrow}
-use Rattle.conditions.specs.Decided.{Decides, Shows}
+use Rattle.conditions.specs.Decided.{Decides, nothing, Shows}
 use Rattle.conditions.specs.declared.Ranked.{Ranked}
 
 -- ---- numbers and their bits
@@ -60,13 +60,15 @@ minus-fits z h = rw (+ℤ-idl (negℤ z)) (fits-abs (omega (arith, abs-neg z)))
 
 -- ---- a ranking's fourth condition
 
-pub shows-nothing : (yb zb : ℤ) (r : Ranked) → r .holds ≡ false → pos 0 ≤ℤ zb → Shows yb zb r
+pub shows-nothing : (yb zb : ℤ) (r : Ranked) → r ≡ nothing → pos 0 ≤ℤ zb → Shows yb zb r
 shows-nothing yb zb r e h =
-    record {
-      fourth = rw e (answer-no (λ below. clashℤ below h));
-      start-is = λ t. absurd (false≢true (sym e ∙ t));
-      fall-is = λ t. absurd (false≢true (sym e ∙ t));
-    }
+    rw e
+    (record {
+      fourth = answer-no (λ below. clashℤ below h);
+      start-is = λ t. absurd (false≢true t);
+      fall-is = λ t. absurd (false≢true t);
+      otherwise = λ t. refl;
+    })
 
 -- ---- the test of order
 

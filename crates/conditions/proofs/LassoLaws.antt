@@ -12,7 +12,7 @@ use Rattle.theory.specs.Lassos.{Lasso, LassoHolds, longer}
 use Rattle.theory.specs.Loops.{Loop}
 use Rattle.theory.specs.Rankings.{RankingHolds}
 use Rattle.theory.proofs.RankingTheorems.{no-difference}
-use Rattle.conditions.specs.Decided.{Starts, Keeps, RankedBy, LassoBy}
+use Rattle.conditions.specs.Decided.{Starts, Keeps, nothing, RankedBy, LassoBy}
 use Rattle.conditions.specs.Held.{LassoIn, s-place}
 use Rattle.conditions.specs.declared.Ranked.{Ranked}
 use Rattle.conditions.proofs.Deciding.{answer-no, answer-by}
@@ -61,15 +61,17 @@ module _ (loop : Loop) (c : Lasso) where
       }
 
   -- a part that fails
-  pub lasso-fails : (r : Ranked) (lent : List ℤ) → (LassoHolds loop c → ⊥) → r .holds ≡ false → LassoBy r loop c lent lent
+  pub lasso-fails : (r : Ranked) (lent : List ℤ) → (LassoHolds loop c → ⊥) → r ≡ nothing → LassoBy r loop c lent lent
   lasso-fails r lent fails e =
-      record {
-        decided = rw e (answer-no fails);
-        start-is = λ t. absurd (false≢true (sym e ∙ t));
-        fall-is = λ t. absurd (false≢true (sym e ∙ t));
-        put = λ t. absurd (false≢true (sym e ∙ t));
+      rw e
+      (record {
+        decided = answer-no fails;
+        start-is = λ t. absurd (false≢true t);
+        fall-is = λ t. absurd (false≢true t);
+        otherwise = λ t. refl;
+        put = λ t. absurd (false≢true t);
         stays = λ t. refl;
-      }
+      })
 
   -- start and kept hold: what is left is the ranking
   pub lasso-ranked : (r : Ranked) (before after : List ℤ) → Starts (loop .variables) c → Keeps loop c → RankedBy r (longer loop c) (c .ranking) before after → LassoBy r loop c before after
@@ -78,6 +80,7 @@ module _ (loop : Loop) (c : Lasso) where
         decided = answer-by (by-parts s k) (λ h. h .ranked) (ranked .decided);
         start-is = ranked .start-is;
         fall-is = ranked .fall-is;
+        otherwise = ranked .otherwise;
         put = ranked .put;
         stays = ranked .stays;
       }

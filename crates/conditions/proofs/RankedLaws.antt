@@ -15,7 +15,7 @@ use Rattle.whole.proofs.Tables.{length-tabulate, tabulate-more, tabulate-same}
 use Rattle.theory.specs.Loops.{A, A′, b, Loop}
 use Rattle.theory.specs.Rankings.{Ranking, RankingHolds, rank, start, fall}
 use Rattle.theory.proofs.RankingTheorems.{no-difference}
-use Rattle.conditions.specs.Decided.{ColumnAt, Totalled, RanksBy, ColumnsBy, Shows, RankedBy}
+use Rattle.conditions.specs.Decided.{ColumnAt, Totalled, RanksBy, ColumnsBy, nothing, Shows, RankedBy}
 use Rattle.conditions.specs.declared.Ranked.{Ranked}
 use Rattle.conditions.proofs.Deciding.{answer-yes, answer-no, answer-by}
 
@@ -72,19 +72,22 @@ module _ (loop : Loop) (c : Ranking) (before : List ℤ) (told : Ranked) (shows 
         decided = rw e (answer-no (λ h. shows .fourth .no-fails e (h .fourth)));
         start-is = λ t. absurd (false≢true (sym e ∙ t));
         fall-is = λ t. absurd (false≢true (sym e ∙ t));
+        otherwise = shows .otherwise;
         put = λ t. absurd (false≢true (sym e ∙ t));
         stays = λ t. refl;
       }
 
-  pub three-fail : (r : Ranked) (after : List ℤ) (holds : Bool) → ColumnsBy holds loop c before after → holds ≡ false → r .holds ≡ false → RankedBy r loop c before after
+  pub three-fail : (r : Ranked) (after : List ℤ) (holds : Bool) → ColumnsBy holds loop c before after → holds ≡ false → r ≡ nothing → RankedBy r loop c before after
   three-fail r after holds by fails e =
-      record {
-        decided = rw e (answer-no (λ h. by .decided .no-fails fails (column-of loop c h)));
-        start-is = λ t. absurd (false≢true (sym e ∙ t));
-        fall-is = λ t. absurd (false≢true (sym e ∙ t));
-        put = λ t. absurd (false≢true (sym e ∙ t));
+      rw e
+      (record {
+        decided = answer-no (λ h. by .decided .no-fails fails (column-of loop c h));
+        start-is = λ t. absurd (false≢true t);
+        fall-is = λ t. absurd (false≢true t);
+        otherwise = λ t. refl;
+        put = λ t. absurd (false≢true t);
         stays = λ t. by .stays fails;
-      }
+      })
 
   pub all-hold : (after : List ℤ) (holds : Bool) → ColumnsBy holds loop c before after → holds ≡ true → told .holds ≡ true → RankedBy told loop c before after
   unfolding start fall
@@ -93,6 +96,7 @@ module _ (loop : Loop) (c : Ranking) (before : List ℤ) (told : Ranked) (shows 
         decided = rw e (answer-yes (by-columns loop c (by .decided .yes-holds three) (shows .fourth .yes-holds e)));
         start-is = shows .start-is;
         fall-is = shows .fall-is;
+        otherwise = shows .otherwise;
         put = λ t. by .put three;
         stays = λ t. absurd (false≢true (sym t ∙ e));
       }

@@ -64,17 +64,23 @@ pub record RowTaken (multiplier : ℕ) (certificate : List ℕ) (s n : ℕ) (bef
   pub small : (k : ℕ) → k < n → natAbs (getD after k (pos 0)) ≤ natAbs (getD before k (pos 0)) + mostEntry
   pub stays : (k : ℕ) → n ≤ k → getD after k (pos 0) ≡ getD before k (pos 0)
 
+-- what is shown where a condition fails
+abbrev pub nothing : Ranked
+nothing = record { holds = false; start = pos 0; fall = pos 0 }
+
 -- the fourth condition, and what is then shown: start -Yb and fall -Zb
 pub record Shows (y-right z-right : ℤ) (r : Ranked) : Type 0 where
   pub fourth : Decides (r .holds) (z-right <ℤ pos 0)
   pub start-is : r .holds ≡ true → r .start ≡ negℤ y-right
   pub fall-is : r .holds ≡ true → r .fall ≡ negℤ z-right
+  pub otherwise : r .holds ≡ false → r ≡ nothing
 
--- whether a ranking of a loop holds; and then start and fall, and the rank in the front of a list, which stays otherwise
+-- whether a ranking of a loop holds; and then start and fall, and the rank in the front of a list. Otherwise nothing is shown, and the list stays
 pub record RankedBy (r : Ranked) (loop : Loop) (c : Ranking) (before after : List ℤ) : Type 0 where
   pub decided : Decides (r .holds) (RankingHolds loop c)
   pub start-is : r .holds ≡ true → r .start ≡ start loop c
   pub fall-is : r .holds ≡ true → r .fall ≡ fall loop c
+  pub otherwise : r .holds ≡ false → r ≡ nothing
   pub put : r .holds ≡ true → after ≡ rank loop c ++ drop (loop .variables) before
   pub stays : r .holds ≡ false → after ≡ before
 
@@ -103,10 +109,11 @@ Starts n c = Carried n (c .stem) (c .T) (c .s) (c .s0) 0 (c .k)
 abbrev pub Keeps : Loop → Lasso → Type 0
 Keeps loop c = Carried (loop .variables) (loop .rows) (c .H) (c .s) (c .s0) (c .h0) (c .k2)
 
--- whether a lasso of a loop holds; and then start, fall and the rank, over the loop with the added row
+-- whether a lasso of a loop holds; and then start, fall and the rank, over the loop with the added row. Otherwise nothing is shown, and the list stays
 pub record LassoBy (r : Ranked) (loop : Loop) (c : Lasso) (before after : List ℤ) : Type 0 where
   pub decided : Decides (r .holds) (LassoHolds loop c)
   pub start-is : r .holds ≡ true → r .start ≡ start (longer loop c) (c .ranking)
   pub fall-is : r .holds ≡ true → r .fall ≡ fall (longer loop c) (c .ranking)
+  pub otherwise : r .holds ≡ false → r ≡ nothing
   pub put : r .holds ≡ true → after ≡ rank (longer loop c) (c .ranking) ++ drop (loop .variables) before
   pub stays : r .holds ≡ false → after ≡ before

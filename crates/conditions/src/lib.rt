@@ -10,12 +10,12 @@ ghost use lib.ListN.{length, getD, drop};
 ghost use mathlib.Core.List.{_++_};
 ghost use Rattle.columns.specs.Places.{rightAt, RowsIn, MultipliersIn, AllModest};
 ghost use Rattle.columns.specs.Running.{CanGrow, Modest};
-ghost use Rattle.conditions.specs.Decided.{Decides, ColumnHolds, ColumnIn, nextIn, RanksBy, ColumnsBy, RowTaken, Shows, RankedBy, RowExcluded, CarriedAt, Carried, Starts, Keeps, LassoBy};
+ghost use Rattle.conditions.specs.Decided.{Decides, ColumnHolds, ColumnIn, nextIn, RanksBy, ColumnsBy, RowTaken, nothing, Shows, RankedBy, RowExcluded, CarriedAt, Carried, Starts, Keeps, LassoBy};
 ghost use Rattle.conditions.specs.Held.{loop-held, ranking-held, exclusion-held, LassoIn, lasso-held, longer-held};
 ghost use Rattle.columns.specs.Lists.{multipliersFrom, entriesFrom, rowFrom, rowsFrom};
 ghost use Rattle.theory.specs.Exclusions.{ExclusionHolds};
 
-// A ranking's answer: whether its conditions hold, and then start and fall.
+// A ranking's answer: whether its conditions hold, and then start and fall; both are 0 otherwise.
 pub struct Ranked {
     pub holds: bool,
     pub start: i64,
@@ -23,7 +23,7 @@ pub struct Ranked {
 }
 
 fn fails() -> Ranked
-    ensures { λ r. ⌜ r .holds ≡ false ⌝ }
+    ensures { λ r. ⌜ r ≡ nothing ⌝ }
 {
     Ranked {
         holds: false,

@@ -1,18 +1,18 @@
 -- `columns::add_rows` meets its contract: before each turn the totals are those of the rows so far, and the next row starts at `at`. Assumes nothing.
-use Prim.Native.Nat.{_+_, _-_, _≤_, _<_}
-use mathlib.Core.Path.{_≡_, refl, _∙_}
+use Prim.Native.Nat.{_+_, _*_, _-_, _≤_, _<_}
+use mathlib.Core.Path.{_≡_}
 use native.Mathlib.Omega.{arith}
 use lib.ListN.{length}
-use Rattle.columns.specs.Places.{rowAt, SumsOf}
+use Rattle.columns.specs.Places.{rowAt, RestStays, SumsOf}
 use Rattle.columns.proofs.ColumnLaws.{row-inside}
-use Rattle.columns.proofs.LiftLaws.{sums-none, sums-more, sums-grow}
+use Rattle.columns.proofs.LiftLaws.{rest-none, rest-more, sums-none, sums-more, sums-grow}
 use borrow.Author.Needs.{needs}
 use Rattle.columns.proofs.add_rows.Statement.{statement}
 use Rattle.columns.proofs.add_rows.Tie as tie
 
 abbrev Inv-loop : tie.InvT-loop
 Inv-loop ys₀ zs₀ rows start n multipliers y z count stride at₀ i₀ ys zs at i =
-    (i ≤ count) × (at ≡ rowAt start n i) × (length ys ≡ length ys₀) × (length zs ≡ length zs₀)
+    (i ≤ count) × (at ≡ rowAt start n i) × RestStays (2 * n) ys₀ ys × RestStays (2 * n) zs₀ zs
     × SumsOf multipliers y rows start n i ys × SumsOf multipliers z rows start n i zs
 
 abbrev μ-loop : tie.MeasureT-loop
@@ -37,8 +37,8 @@ loop-holds c =
     let a = start .args in (
       omega arith,
       omega arith,
-      refl,
-      refl,
+      rest-none (2 * a .n) (a .ys .now),
+      rest-none (2 * a .n) (a .zs .now),
       sums-none (a .multipliers .now) (a .y) (a .rows .now) (a .start) (a .n) (a .ys .now) (start .pre .2),
       sums-none (a .multipliers .now) (a .z) (a .rows .now) (a .start) (a .n) (a .zs .now) (start .pre .3),
     )
@@ -73,8 +73,8 @@ add-row-requires c κs =
     let a = start .args in
     let row = inside (first .before) in
     let few : turn .loop .i < 16384 = omega (arith, first .before .loop-test .taken, start .pre .4 .few) in (
-      omega (arith, turn .loop .inv .2, start .pre .0),
-      omega (arith, turn .loop .inv .3, start .pre .1),
+      omega (arith, turn .loop .inv .2 .long, start .pre .0),
+      omega (arith, turn .loop .inv .3 .long, start .pre .1),
       sums-grow (a .multipliers .now) (a .y) (a .rows .now) (a .start) (a .n) (turn .loop .i) (turn .loop .ys) (turn .loop .inv .4) few,
       sums-grow (a .multipliers .now) (a .z) (a .rows .now) (a .start) (a .n) (turn .loop .i) (turn .loop .zs) (turn .loop .inv .5) few,
       first .u16-at .ensures .1,
@@ -100,8 +100,8 @@ loop-again c =
     let a = turn .before .before .before .args in (
       omega arith,
       omega arith,
-      called .ensures .0 .long ∙ turn .loop .inv .2,
-      called .ensures .1 .long ∙ turn .loop .inv .3,
+      rest-more (turn .loop .inv .2) (called .ensures .0),
+      rest-more (turn .loop .inv .3) (called .ensures .1),
       sums-more (a .multipliers .now) (a .y) (a .rows .now) (a .start) (a .n) (turn .loop .i) (first .result) (turn .loop .at) (turn .loop .ys) (called .last .0)
           (turn .loop .inv .4) (first .ensures .0) (first .ensures .1) (turn .loop .inv .1) (called .ensures .0),
       sums-more (a .multipliers .now) (a .z) (a .rows .now) (a .start) (a .n) (turn .loop .i) (second .result) (turn .loop .at) (turn .loop .zs) (called .last .1 .0)
@@ -109,15 +109,15 @@ loop-again c =
     )
 
 same-length : tie.Need-same-length Inv-loop μ-loop
-same-length c = c .before .loop .inv .2
+same-length c = c .before .loop .inv .2 .long
 
 same-length-2 : tie.Need-same-length-2 Inv-loop μ-loop
-same-length-2 c = c .before .loop .inv .3
+same-length-2 c = c .before .loop .inv .3 .long
 
 returns : tie.Need-returns Inv-loop μ-loop
 returns c =
     let end : c .before .loop .i ≡ c .before .before .before .before .args .count = omega arith in
-    (rw end at (c .before .loop .inv .4), rw end at (c .before .loop .inv .5))
+    (rw end at (c .before .loop .inv .4), rw end at (c .before .loop .inv .5), c .before .loop .inv .2, c .before .loop .inv .3)
 
 pub add-rows-spec : {M : Type 1} → statement M
 add-rows-spec =

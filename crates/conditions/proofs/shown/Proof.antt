@@ -1,4 +1,6 @@
 -- `conditions::shown` meets its contract. Assumes nothing.
+use mathlib.Core.Path.{sym}
+use mathlib.Core.Bool.{false≢true}
 use lib.IntN.{pos, negℤ, +ℤ-idl}
 use mir.Facts.{toZ-ofZ}
 use borrow.Author.Needs.{needs}
@@ -29,6 +31,7 @@ returns-2 c =
       fourth = answer-yes (false-le (pos 0) (s .args .zb) (rw (toZ-ofZ (s .fits .zb)) at (c .if1 .left)));
       start-is = λ t. +ℤ-idl (negℤ (s .args .yb));
       fall-is = λ t. +ℤ-idl (negℤ (s .args .zb));
+      otherwise = λ t. absurd (false≢true (sym t));
     })
 
 pub shown-spec : {M : Type 1} → statement M
