@@ -89,10 +89,8 @@ passed-modest s h = rw (toZ-ofZ (modest-fits h)) h
 pub lift-modest : (count : ℕ) (term : ℕ → ℤ) (s : ℤ) → count ≤ 65 → SumOf count mostEntry term s → Modest s
 lift-modest count term s few h = omega (arith, h .small, mul-le-mul-right 2147450880 few)
 
-pub right-small : (count : ℕ) (term : ℕ → ℤ) (s : ℤ) → count ≤ 65 → SumOf count 140735340871680 term s → natAbs (toZ w64 (ofZ w64 s)) ≤ 9147797156659200
-right-small count term s few h =
-    let small : natAbs s ≤ 9147797156659200 = omega (arith, h .small, mul-le-mul-right 140735340871680 few) in
-    rw (toZ-ofZ (fits-abs {z = s} (omega arith))) small
+pub right-small : (count : ℕ) (term : ℕ → ℤ) (s : ℤ) → count ≤ 65 → SumOf count 140735340871680 term s → natAbs s ≤ 9147797156659200
+right-small count term s few h = omega (arith, h .small, mul-le-mul-right 140735340871680 few)
 
 -- a number on file that is passed on
 pub passed-small : (z : ℤ) (most : ℕ) → most ≤ 2147483648 → natAbs z ≤ most → natAbs (toZ w64 (ofZ w64 z)) ≤ most

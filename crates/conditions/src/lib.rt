@@ -14,6 +14,7 @@ ghost use Rattle.conditions.specs.Decided.{Decides, ColumnHolds, ColumnI
 ghost use Rattle.conditions.specs.Held.{loop-held, ranking-held, exclusion-held, LassoIn, lasso-held, longer-held};
 ghost use Rattle.columns.specs.Lists.{multipliersFrom, entriesFrom, rowFrom, rowsFrom};
 ghost use Rattle.theory.specs.Exclusions.{ExclusionHolds};
+use whole::Total;
 
 // A ranking's answer: whether its conditions hold, and then start and fall; both are 0 otherwise.
 pub struct Ranked {
@@ -273,7 +274,9 @@ fn less_times(total: i64, k: usize, z: i64) -> i64
     requires { ⌜ Modest total × (k < 65536) × (natAbs z ≤ 32768) ⌝ }
     ensures { λ r. ⌜ (r ≡ total -ℤ pos k *ℤ z) × (natAbs r ≤ natAbs total + 2147450880) ⌝ }
 {
-    total - times(k, z)
+    let sum = Total { sum: total };
+    let less = sum.plus(k as i64, -z);
+    less.sum
 }
 
 // The added row -s·x <= s0 of a lasso: each of the first n totals less its multiplier times s's entry.
@@ -287,22 +290,22 @@ fn take_row(sums: &mut [i64], n: usize, multiplier: usize, certificate: &[u8], s
 }
 
 // A total and a multiplier times a right side: one row more.
-fn and_times(total: i64, k: usize, z: i64) -> i64
-    requires { ⌜ (natAbs total ≤ 9147797156659200) × (k < 65536) × (natAbs z ≤ 2147483648) ⌝ }
-    ensures { λ r. ⌜ (r ≡ total +ℤ pos k *ℤ z) × CanGrow r ⌝ }
+fn and_times(total: Total, k: usize, z: i64) -> Total
+    requires { ⌜ (natAbs (total .sum) ≤ 9147797156659200) × (k < 65536) × (natAbs z ≤ 2147483648) ⌝ }
+    ensures { λ r. ⌜ (r .sum ≡ total .sum +ℤ pos k *ℤ z) × CanGrow (r .sum) ⌝ }
 {
-    total + times(k, z)
+    total.plus(k as i64, z)
 }
 
 // The right sides of a lasso's ranking under one list of multipliers.
-fn lasso_right(rows: &[u8], n: usize, m: usize, certificate: &[u8], place: usize, s: usize) -> i64
+fn lasso_right(rows: &[u8], n: usize, m: usize, certificate: &[u8], place: usize, s: usize) -> Total
     requires { ⌜ RowsIn (now rows) 10 n m × (m ≤ 64) × (n ≤ 16) × (place < 131072) × (s < 65536)
         × (place + 2 * (m + 1) ≤ length (now certificate)) × (s + 2 * n + 4 ≤ length (now certificate)) ⌝ }
-    ensures { λ r. ⌜ (r ≡ sum (multipliersFrom (now (certificate .entry)) place (m + 1)) b (longer-held (now (rows .entry)) n m (now (certificate .entry)) s .rows)) × CanGrow r ⌝ }
+    ensures { λ r. ⌜ (r .sum ≡ sum (multipliersFrom (now (certificate .entry)) place (m + 1)) b (longer-held (now (rows .entry)) n m (now (certificate .entry)) s .rows)) × CanGrow (r .sum) ⌝ }
 {
     let right = columns::right_of(rows, 10, n, certificate, place, m);
     and_times(
-        right.sum,
+        right,
         endian::u16_at(certificate, place + 2 * m),
         endian::i32_at(certificate, s + 2 * n),
     )
@@ -364,7 +367,7 @@ fn lasso_ranking(
 {
     let yb = lasso_right(rows, n, m, certificate, place, s);
     let zb = lasso_right(rows, n, m, certificate, place + 2 * (m + 1), s);
-    let told = shown(yb, zb);
+    let told = shown(yb.sum, zb.sum);
     if !told.holds {
         return told;
     }

@@ -1,34 +1,29 @@
 -- `conditions::and_times` meets its contract. Assumes nothing.
-use mathlib.Core.Path.{_≡_, refl}
-use lib.IntN.{pos, _+ℤ_, _*ℤ_}
+use Prim.Native.Nat.{_*_}
+use mathlib.Core.Path.{refl}
 use native.Mathlib.Omega.{arith}
-use mir.Syntax.{w64}
-use mir.Val.{SFits}
-use mir.Facts.{toZ-ofZ}
-use Rattle.whole.proofs.Size.{abs-add, fits-abs}
-use Rattle.columns.specs.Running.{CanGrow}
+use lib.IntN.{pos, _*ℤ_}
+use Rattle.whole.proofs.Size.{abs-add}
+use Rattle.columns.specs.Running.{Adds}
+use Rattle.columns.proofs.SumLaws.{may-add, added}
+use borrow.Author.Needs.{needs}
 use Rattle.conditions.proofs.and_times.Statement.{statement}
 use Rattle.conditions.proofs.and_times.Tie as tie
 
-times-requires : tie.Need-times-requires
-times-requires c κs = (c .pre .1, rw (toZ-ofZ (c .fits .z)) (omega (arith, c .pre .2)))
+cast-plus : tie.Need-cast-plus
+cast-plus c = search needs
 
--- the sum is small
-small : (c : tie.After-times) → CanGrow (c .before .args .total +ℤ c .times .result)
-small c = omega (arith, abs-add (c .before .args .total) (c .times .result), c .times .ensures .1, c .before .pre .0)
-
-add-result : tie.Need-add-result
-add-result c =
-    let fits : SFits w64 (c .times .result) = fits-abs (omega (arith, c .times .ensures .1)) in
-    rw (toZ-ofZ (c .before .fits .total), toZ-ofZ fits) (fits-abs (omega (arith, small c)))
+plus-requires : tie.Need-plus-requires
+plus-requires c κs = may-add (pos (c .args .k)) (c .args .z) 65535 2147483648 (omega (arith, c .pre .1)) (c .pre .2) (omega arith) (c .args .total .sum) (omega (arith, c .pre .0))
 
 returns : tie.Need-returns
 returns c =
     let s = c .before in
-    let fits : SFits w64 (c .times .result) = fits-abs (omega (arith, c .times .ensures .1)) in
-    let told : c .times .result ≡ pos (s .args .k) *ℤ s .args .z = rw (toZ-ofZ (s .fits .z)) at (c .times .ensures .0) in
-    let sum-fits : SFits w64 (s .args .total +ℤ c .times .result) = fits-abs (omega (arith, small c)) in
-    rw (toZ-ofZ (s .fits .total), toZ-ofZ fits, toZ-ofZ sum-fits) (rw told refl, small c)
+    let k = pos (s .args .k) in
+    let more : Adds (65535 * 2147483648) (k *ℤ s .args .z) (s .args .total .sum) (c .plus .result .sum) =
+    added k (s .args .z) 65535 2147483648 (omega (arith, s .pre .1)) (s .pre .2) (omega arith) refl refl (c .plus .ensures)
+    in
+    (more .is, rw (more .is) (omega (arith, abs-add (s .args .total .sum) (k *ℤ s .args .z), more .small, s .pre .0)))
 
 pub and-times-spec : {M : Type 1} → statement M
-and-times-spec = tie.close (tie.spec times-requires add-result returns)
+and-times-spec = tie.close (tie.spec cast-plus plus-requires returns)

@@ -7,6 +7,7 @@ use Rattle.whole.specs.Sums.{sum}
 use Rattle.theory.specs.Loops.{b}
 use Rattle.conditions.specs.Decided.{Shows}
 use Rattle.conditions.specs.Held.{ranking-held, longer-held}
+use Rattle.columns.proofs.LiftLaws.{passed-grows}
 use Rattle.conditions.proofs.RankedLaws.{fourth-fails, three-fail, all-hold}
 use Rattle.conditions.proofs.Totals.{grown-fits}
 use Rattle.conditions.proofs.lasso_ranking.Statement.{statement}
@@ -28,17 +29,20 @@ lasso-right-requires-2 : tie.Need-lasso-right-requires-2
 lasso-right-requires-2 c κs = search needs
 
 shown-requires : tie.Need-shown-requires
-shown-requires c κs = search needs
+shown-requires c κs =
+    let second = c .before .before in
+    let first = second .before in
+    (passed-grows (first .lasso-right .result .sum) (first .lasso-right .ensures .1), passed-grows (second .lasso-right2 .result .sum) (second .lasso-right2 .ensures .1))
 
 -- what is shown, of the sums of the theory
 told-of : (c : tie.After-shown)
-    → let a = c .before .before .before .before .before .args in
+    → let a = c .before .before .before .before .before .before .before .args in
     let loop = longer-held (a .rows .now) (a .n) (a .m) (a .certificate .now) (a .s) in
     let ranking = ranking-held (a .certificate .now) (a .place) (a .m + 1) in
     Shows (sum (ranking .Y) b (loop .rows)) (sum (ranking .Z) b (loop .rows)) (c .shown .result)
 unfolding ranking-held
 told-of c =
-    let second = c .before in
+    let second = c .before .before .before in
     let first = second .before in
     rw (
       toZ-ofZ (grown-fits (first .lasso-right .ensures .1)),
@@ -50,7 +54,7 @@ told-of c =
 returns : tie.Need-returns
 returns c =
     let told = c .before .before in
-    let a = told .before .before .before .before .before .args in
+    let a = told .before .before .before .before .before .before .before .args in
     fourth-fails (longer-held (a .rows .now) (a .n) (a .m) (a .certificate .now) (a .s)) (ranking-held (a .certificate .now) (a .place) (a .m + 1)) (a .rank .now) (told .shown .result) (told-of told)
     (not-true (told .shown .result .holds) (c .if1 .taken))
 
@@ -67,7 +71,7 @@ returns-2 : tie.Need-returns-2
 returns-2 c =
     let called = c .before .before .before .longer-columns in
     let told = c .before .before .before .before .before .before .before in
-    let a = told .before .before .before .before .before .args in
+    let a = told .before .before .before .before .before .before .before .args in
     three-fail (longer-held (a .rows .now) (a .n) (a .m) (a .certificate .now) (a .s)) (ranking-held (a .certificate .now) (a .place) (a .m + 1)) (a .rank .now) (told .shown .result) (told-of told)
     (c .fails .result) (called .last .1 .1 .1 .1 .1 .1 .0) (called .result) (called .ensures) (not-true (called .result) (c .before .if2 .taken)) (c .fails .ensures)
 
@@ -78,7 +82,7 @@ returns-3 : tie.Need-returns-3
 returns-3 c =
     let called = c .before .before .longer-columns in
     let told = c .before .before .before .before .before .before in
-    let a = told .before .before .before .before .before .args in
+    let a = told .before .before .before .before .before .before .before .args in
     all-hold (longer-held (a .rows .now) (a .n) (a .m) (a .certificate .now) (a .s)) (ranking-held (a .certificate .now) (a .place) (a .m + 1)) (a .rank .now) (told .shown .result) (told-of told)
     (called .last .1 .1 .1 .1 .1 .1 .0) (called .result) (called .ensures) (not-false (called .result) (c .if2 .left))
     (not-false (told .shown .result .holds) (c .before .before .before .before .if1 .left))

@@ -7,7 +7,7 @@ use mir.Facts.{toZ-ofZ}
 use Rattle.whole.proofs.Size.{fits-abs}
 use Rattle.columns.specs.Places.{rightAt, multiplierAt}
 use Rattle.conditions.proofs.AddedLaws.{right-added}
-use Rattle.conditions.proofs.Totals.{can-grow, grown-fits, right-is, right-small, passed-small}
+use Rattle.conditions.proofs.Totals.{right-is, right-small, passed-small}
 use borrow.Author.Needs.{needs}
 use Rattle.conditions.proofs.lasso_right.Statement.{statement}
 use Rattle.conditions.proofs.lasso_right.Tie as tie
@@ -35,22 +35,20 @@ i32-at-requires c κs = search needs
 
 and-times-requires : tie.Need-and-times-requires
 and-times-requires c κs =
-    let read = c .before .i32-at in
-    let right = c .before .before .before .right-of in
-    let a = c .before .before .before .before .before .before .args in
-    (right-small (a .m) _ (right .result .sum) (omega arith) (right .ensures), c .before .before .u16-at .ensures .1, passed-small (read .result) 2147483648 (omega arith) (read .ensures .1))
+    let read = c .i32-at in
+    let right = c .before .before .right-of in
+    let a = c .before .before .before .before .before .args in
+    (right-small (a .m) _ (right .result .sum) (omega arith) (right .ensures), c .before .u16-at .ensures .1, passed-small (read .result) 2147483648 (omega arith) (read .ensures .1))
 
 returns : tie.Need-returns
 unfolding rightAt multiplierAt
 returns c =
-    let read = c .before .before .i32-at in
-    let last = c .before .before .before .u16-at in
-    let right = c .before .before .before .before .right-of in
-    let a = c .before .before .before .before .before .before .before .args in
-    let right-fits : toZ w64 (ofZ w64 (right .result .sum)) ≡ right .result .sum = toZ-ofZ (grown-fits (can-grow (a .m) 140735340871680 _ (right .result .sum) (omega arith) (omega arith) (right .ensures))) in
-    let read-fits : toZ w64 (ofZ w64 (read .result)) ≡ read .result = toZ-ofZ (fits-abs {z = read .result} (omega (arith, read .ensures .1))) in
-    rw (toZ-ofZ (grown-fits (c .and-times .ensures .1))) (
-      rw (right-fits, read-fits, read .ensures .0, last .ensures .0, right-is (a .certificate .now) (a .place) (a .rows .now) 10 (a .n) (a .m) (right .result .sum) (right .ensures)) at (c .and-times .ensures .0)
+    let read = c .before .i32-at in
+    let last = c .before .before .u16-at in
+    let right = c .before .before .before .right-of in
+    let a = c .before .before .before .before .before .before .args in
+    let read-fits : toZ w64 (ofZ w64 (read .result)) ≡ read .result = toZ-ofZ (fits-abs {z = read .result} (omega (arith, read .ensures .1))) in (
+      rw (read-fits, read .ensures .0, last .ensures .0, right-is (a .certificate .now) (a .place) (a .rows .now) 10 (a .n) (a .m) (right .result .sum) (right .ensures)) at (c .and-times .ensures .0)
           ∙ sym (right-added (a .rows .now) (a .certificate .now) (a .n) (a .m) (a .place) (a .s)),
       c .and-times .ensures .1,
     )

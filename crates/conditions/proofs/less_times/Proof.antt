@@ -1,39 +1,50 @@
 -- `conditions::less_times` meets its contract. Assumes nothing.
-use Prim.Native.Nat.{_+_, _≤_}
-use mathlib.Core.Path.{_≡_, refl}
-use lib.IntN.{pos, natAbs, negℤ, _-ℤ_, _*ℤ_}
+use Prim.Native.Nat.{_*_, _≤_}
+use mathlib.Core.Path.{_≡_, refl, _∙_}
 use native.Mathlib.Omega.{arith}
-use mir.Syntax.{w64}
-use mir.Val.{SFits}
+use lib.IntN.{ℤ, pos, natAbs, negℤ, _+ℤ_, _-ℤ_, _*ℤ_, +ℤ-idl}
 use mir.Facts.{toZ-ofZ}
-use Rattle.whole.proofs.Size.{abs-add, abs-neg, abs-product, fits-abs}
+use Rattle.whole.proofs.Size.{abs-add, abs-neg}
+use Rattle.whole.proofs.Solve.{v, _⊕_, _⊝_, _⊗_, solve}
+use Rattle.columns.specs.Running.{Adds}
+use Rattle.columns.proofs.SumLaws.{may-add, added}
+use Rattle.conditions.proofs.Deciding.{minus-fits}
+use borrow.Author.Needs.{needs, sfits-of}
 use Rattle.conditions.proofs.less_times.Statement.{statement}
 use Rattle.conditions.proofs.less_times.Tie as tie
 
-times-requires : tie.Need-times-requires
-times-requires c κs = (c .pre .1, rw (toZ-ofZ (c .fits .z)) (omega (arith, c .pre .2)))
+-- minus an entry is as small as the entry
+minus-small : (z : ℤ) → natAbs z ≤ 32768 → natAbs (pos 0 -ℤ z) ≤ 32768
+minus-small z h = rw (+ℤ-idl (negℤ z)) (omega (arith, abs-neg z))
 
-module _ (c : tie.After-times) where
-  told : c .times .result ≡ pos (c .before .args .k) *ℤ c .before .args .z
-  told = rw (toZ-ofZ (c .before .fits .z)) at (c .times .ensures .0)
+-- what takes minus a term has that term less
+less : (s k z : ℤ) → s +ℤ k *ℤ (pos 0 -ℤ z) ≡ s -ℤ k *ℤ z
+less s k z = solve (v s ⊕ v k ⊗ (v (pos 0) ⊝ v z)) (v s ⊝ v k ⊗ v z) (omega arith)
 
-  -- the difference is small
-  small : natAbs (c .before .args .total -ℤ c .times .result) ≤ natAbs (c .before .args .total) + 2147450880
-  small =
-      let term = rw (← told) at (abs-product (pos (c .before .args .k)) (c .before .args .z) {a = 65535} {b = 32768} (omega (arith, c .before .pre .1)) (c .before .pre .2)) in
-      omega (arith, abs-add (c .before .args .total) (negℤ (c .times .result)), abs-neg (c .times .result), term)
+cast-plus : tie.Need-cast-plus
+cast-plus c = search needs
 
-  fits : SFits w64 (c .times .result)
-  fits = fits-abs (omega (arith, c .times .ensures .1))
+sub-plus : tie.Need-sub-plus
+sub-plus c = rw (toZ-ofZ (c .fits .z)) (minus-fits (c .args .z) (omega (arith, c .pre .2)))
 
-sub-result : tie.Need-sub-result
-sub-result c = rw (toZ-ofZ (c .before .fits .total), toZ-ofZ (fits c)) (fits-abs (omega (arith, small c, c .before .pre .0)))
+plus-requires : tie.Need-plus-requires
+plus-requires c κs =
+    let a = c .args in
+    rw (toZ-ofZ (c .fits .z), toZ-ofZ (c .fits .total))
+    (may-add (pos (a .k)) (pos 0 -ℤ a .z) 65535 32768 (omega (arith, c .pre .1)) (minus-small (a .z) (c .pre .2)) (omega arith) (a .total) (omega (arith, c .pre .0)))
 
 returns : tie.Need-returns
 returns c =
-    let s = c .before in
-    let difference-fits : SFits w64 (s .args .total -ℤ c .times .result) = fits-abs (omega (arith, small c, s .pre .0)) in
-    rw (toZ-ofZ (s .fits .total), toZ-ofZ (fits c), toZ-ofZ difference-fits) (rw (told c) refl, small c)
+    let s = c .before .before in
+    let a = s .args in
+    let term = pos (a .k) *ℤ (pos 0 -ℤ a .z) in
+    let sum = c .before .plus .result .sum in
+    let more : Adds (65535 * 32768) term (a .total) sum =
+    added (pos (a .k)) (pos 0 -ℤ a .z) 65535 32768 (omega (arith, s .pre .1)) (minus-small (a .z) (s .pre .2)) (omega arith) refl refl
+    (rw (toZ-ofZ (s .fits .z), toZ-ofZ (s .fits .total)) at (c .before .plus .ensures))
+    in
+    rw (toZ-ofZ (sfits-of (c .before .plus .ok .1 .1 .0 .1)))
+    (more .is ∙ less (a .total) (pos (a .k)) (a .z), rw (more .is) (omega (arith, abs-add (a .total) term, more .small)))
 
 pub less-times-spec : {M : Type 1} → statement M
-less-times-spec = tie.close (tie.spec times-requires sub-result returns)
+less-times-spec = tie.close (tie.spec cast-plus sub-plus plus-requires returns)
