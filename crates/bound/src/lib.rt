@@ -158,7 +158,8 @@ fn bound_sound(rows: &[u8], n: usize, m: usize, certificate: &[u8], state: &[i64
     let kind = said.kind;
     match kind {
         2 => bound_ranking(rows, n, m, certificate, state),
-        _ => bound_lasso(rows, n, m, certificate, said.ms, state),
+        4 => bound_lasso(rows, n, m, certificate, said.ms, state),
+        _ => refused(2, 4, 4),
     }
 }
 

@@ -1,6 +1,5 @@
 // Whether a certificate's conditions hold (01, "Conditions"), from the bytes of sound records.
 ghost use mathlib.Core.Path.{_≡_};
-ghost use mathlib.Core.Bool.{true, false};
 ghost use Prim.Native.Nat.{ℕ, _+_, _*_, _≤_, _<_};
 ghost use lib.IntN.{pos, negℤ, natAbs, _+ℤ_, _-ℤ_, _*ℤ_};
 ghost use Rattle.whole.specs.Sums.{sum, tabulate};

@@ -1,13 +1,12 @@
 -- What a check's answer tells of a judging's record: that it is sound, its kind and counts, or the refusal.
-use mathlib.Core.Path.{_≡_, refl, sym, ap, _∙_}
+use mathlib.Core.Path.{_≡_, sym, ap, _∙_}
 use Prim.Native.Nat.{ℕ}
-use mathlib.Core.Bool.{Bool, true}
+use mathlib.Core.Bool.{Bool, true, false, false≢true}
 use mathlib.Core.List.{List, []}
-use Rattle.record.specs.Layouts.{Kind, lasso, kindOf, is-certificate, has-rank}
+use Rattle.record.specs.Layouts.{Kind, kindOf}
 use Rattle.record.specs.Readers.{Reader, kind, kind-number, counts-read, sound, loop-reader}
 use Rattle.record.proofs.ReadThenWrite.{sound-says}
 use Rattle.refusal.specs.Tests.{done, refused, first}
-use Rattle.runs.proofs.ByKind.{by-kind}
 use Rattle.checking.specs.Checks.{checked, checks}
 use Rattle.checking.specs.declared.Checked.{Checked}
 use Rattle.checking.proofs.Answers as Answers
@@ -32,16 +31,6 @@ module _ (rows : List ℕ) (v : Checked) (is : v ≡ checks (loop-reader rows []
       record { told = told; n-is = ap (λ x. x .n) all; m-is = ap (λ x. x .m) all }
 
 -- ---- the certificate
-
--- a certificate that is neither a ranking nor an exclusion is a lasso; one with a rank that is no ranking is a lasso
-pub last-kind : (k : ℕ) → (k ≡ 2 → ⊥) → (k ≡ 3 → ⊥) → is-certificate (kindOf k) ≡ true → kindOf k ≡ lasso
-unfolding is-certificate
-last-kind k two three =
-    by-kind (λ kind. is-certificate kind ≡ true → kind ≡ lasso) k (λ h c. cc) (λ h. absurd (two h)) (λ h. absurd (three h)) (λ h c. refl) (λ c. cc)
-
-pub last-ranked : (k : ℕ) → (k ≡ 2 → ⊥) → has-rank (kindOf k) ≡ true → kindOf k ≡ lasso
-unfolding has-rank
-last-ranked k two = by-kind (λ kind. has-rank kind ≡ true → kind ≡ lasso) k (λ h c. cc) (λ h. absurd (two h)) (λ h c. cc) (λ h c. refl) (λ c. cc)
 
 module _ (wants : Kind → Bool) (rows : List ℕ) (n m : ℕ) (l : LoopSound rows n m) (certificate : List ℕ) (v : Checked)
     (is : v ≡ checks (record { bytes = certificate; wants = wants; n = n; m = m; room = 0 })) where
@@ -70,9 +59,13 @@ module _ (wants : Kind → Bool) (rows : List ℕ) (n m : ℕ) (l : LoopSound ro
     unfolding checked
     ms-told = ap (λ x. x .ms) all
 
-    pub kind-wanted : wants (kindOf (v .kind)) ≡ true
+    kind-wanted : wants (kindOf (v .kind)) ≡ true
     unfolding kind certificate-record
     kind-wanted = rw kind-told (sound-says r certificate-told .wanted)
+
+    -- a kind that is not wanted has been refused
+    pub no-other : wants (kindOf (v .kind)) ≡ false → ⊥
+    no-other unwanted = false≢true (sym unwanted ∙ kind-wanted)
 
     pub sound-as : (k : Kind) → kindOf (v .kind) ≡ k → CertificateSound wants rows certificate k
     unfolding kind

@@ -118,7 +118,8 @@ pub fn judge_sound(rows: &[u8], n: usize, m: usize, certificate: &[u8], rank: &m
     match kind {
         2 => judge_ranking(rows, n, m, certificate, rank),
         3 => judge_exclusion(rows, n, m, certificate),
-        _ => judge_lasso(rows, n, m, certificate, said.ms, rank),
+        4 => judge_lasso(rows, n, m, certificate, said.ms, rank),
+        _ => refused(2, 4, 4),
     }
 }
 

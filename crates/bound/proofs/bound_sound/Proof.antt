@@ -2,11 +2,12 @@
 use mathlib.Core.Path.{sym, ap, _∙_}
 use Rattle.record.specs.Layouts.{ranking, lasso, kindOf, has-rank}
 use Rattle.checking.specs.Checks.{ranked-reader}
+use Rattle.checking.proofs.Ranked.{no-rank}
 use lib.ListN.{length}
 use Rattle.verdict.specs.Bounding.{before-outside, bound-of}
 use Rattle.verdict.specs.Pairs.{variables-of}
 use Rattle.bound.specs.Told.{refusal-of, StateFits}
-use Rattle.judge.proofs.Entered.{last-ranked, certificate-refused, certificate-told, ms-told, kind-wanted, sound-as}
+use Rattle.judge.proofs.Entered.{certificate-refused, certificate-told, ms-told, no-other, sound-as}
 use Rattle.bound.proofs.Ways.{refused-so, at-certificate, at-count, at-outside}
 use borrow.Author.Needs.{needs}
 use Rattle.bound.proofs.bound_sound.Statement.{statement}
@@ -76,7 +77,7 @@ bound-ranking-requires c κs =
     (s .pre, sound-as has-rank (a .rows .now) (a .n) (a .m) (s .pre) (a .certificate .now) v (called .check-ranked .ensures) zero ranking (ap kindOf (c .match .keys1)), state)
 
 bound-lasso-requires : tie.Need-bound-lasso-requires
-unfolding ranked-reader
+unfolding ranked-reader kindOf
 bound-lasso-requires c κs =
     let called = c .before .before .before .before .before .before in
     let s = called .before .before .before in
@@ -84,13 +85,29 @@ bound-lasso-requires c κs =
     let v = called .check-ranked .result in
     let zero = c .before .before .before .before .if1 .left in
     let state : StateFits (a .state .now) (a .n) = record { long = c .before .before .before .if2 .left; inside = sym (c .before .before .before-outside .ensures) ∙ c .before .if3 .left } in
-    (s .pre, sound-as has-rank (a .rows .now) (a .n) (a .m) (s .pre) (a .certificate .now) v (called .check-ranked .ensures) zero lasso (last-ranked (v .kind) (c .match .rest .1) (kind-wanted has-rank (a .rows .now) (a .n) (a .m) (s .pre) (a .certificate .now) v (called .check-ranked .ensures) zero)), ms-told has-rank (a .rows .now) (a .n) (a .m) (s .pre) (a .certificate .now) v (called .check-ranked .ensures) zero, state)
+    (s .pre, sound-as has-rank (a .rows .now) (a .n) (a .m) (s .pre) (a .certificate .now) v (called .check-ranked .ensures) zero lasso (ap kindOf (c .match .keys2)), ms-told has-rank (a .rows .now) (a .n) (a .m) (s .pre) (a .certificate .now) v (called .check-ranked .ensures) zero, state)
 
 returns-4 : tie.Need-returns-4
 returns-4 c = search needs
 
 returns-5 : tie.Need-returns-5
 returns-5 c = search needs
+
+refused-requires-4 : tie.Need-refused-requires-4
+refused-requires-4 c κs = search needs
+
+-- no other kind is left
+returns-6 : tie.Need-returns-6
+unfolding ranked-reader
+returns-6 c =
+    let called = c .before .before .before .before .before .before .before in
+    let s = called .before .before .before in
+    let a = s .args in
+    let zero = c .before .before .before .before .before .if1 .left in
+    let rest = c .before .match .rest in
+    absurd
+    (no-other has-rank (a .rows .now) (a .n) (a .m) (s .pre) (a .certificate .now) (called .check-ranked .result) (called .check-ranked .ensures) zero
+    (no-rank _ (rest .0 .1) (rest .1)))
 
 pub bound-sound-spec : {M : Type 1} → statement M
 bound-sound-spec =
@@ -106,5 +123,7 @@ bound-sound-spec =
     returns-3
     bound-ranking-requires
     bound-lasso-requires
+    refused-requires-4
     returns-4
-    returns-5)
+    returns-5
+    returns-6)

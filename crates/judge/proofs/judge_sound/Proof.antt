@@ -3,7 +3,8 @@ use mathlib.Core.Path.{ap, _∙_}
 use Rattle.record.specs.Layouts.{ranking, exclusion, lasso, kindOf, is-certificate}
 use Rattle.record.specs.Readers.{certificate-reader}
 use Rattle.verdict.specs.Judging.{judge-of}
-use Rattle.judge.proofs.Entered.{last-kind, certificate-refused, ms-told, kind-wanted, sound-as}
+use Rattle.runs.proofs.ByKind.{no-certificate}
+use Rattle.judge.proofs.Entered.{certificate-refused, ms-told, no-other, sound-as}
 use Rattle.judge.proofs.Ways.{refused-so, at-certificate}
 use borrow.Author.Needs.{needs}
 use Rattle.judge.proofs.judge_sound.Statement.{statement}
@@ -46,15 +47,14 @@ judge-exclusion-requires c κs =
     (s .pre, sound-as is-certificate (a .rows .now) (a .n) (a .m) (s .pre) (a .certificate .now) (called .check-certificate .result) (called .check-certificate .ensures) (c .before .if1 .left) exclusion (ap kindOf (c .match .keys2)))
 
 judge-lasso-requires : tie.Need-judge-lasso-requires
-unfolding certificate-reader
+unfolding certificate-reader kindOf
 judge-lasso-requires c κs =
     let s = c .before .before .before .before .before .before .before in
     let a = s .args in
     let called = c .before .before .before .before in
-    let rest = c .before .match .rest in
     let zero = c .before .before .if1 .left in (
       s .pre,
-      sound-as is-certificate (a .rows .now) (a .n) (a .m) (s .pre) (a .certificate .now) (called .check-certificate .result) (called .check-certificate .ensures) zero lasso (last-kind _ (rest .0 .1) (rest .1) (kind-wanted is-certificate (a .rows .now) (a .n) (a .m) (s .pre) (a .certificate .now) (called .check-certificate .result) (called .check-certificate .ensures) zero)),
+      sound-as is-certificate (a .rows .now) (a .n) (a .m) (s .pre) (a .certificate .now) (called .check-certificate .result) (called .check-certificate .ensures) zero lasso (ap kindOf (c .before .match .keys3)),
       ms-told is-certificate (a .rows .now) (a .n) (a .m) (s .pre) (a .certificate .now) (called .check-certificate .result) (called .check-certificate .ensures) zero,
     )
 
@@ -74,6 +74,21 @@ same-length-2 c = search needs
 returns-4 : tie.Need-returns-4
 returns-4 c = search needs
 
+refused-requires-2 : tie.Need-refused-requires-2
+refused-requires-2 c κs = search needs
+
+-- no other kind is left
+returns-5 : tie.Need-returns-5
+unfolding certificate-reader
+returns-5 c =
+    let s = c .before .before .before .before .before .before .before in
+    let a = s .args in
+    let called = c .before .before .before .before in
+    let rest = c .before .match .rest in
+    absurd
+    (no-other is-certificate (a .rows .now) (a .n) (a .m) (s .pre) (a .certificate .now) (called .check-certificate .result) (called .check-certificate .ensures) (c .before .before .if1 .left)
+    (no-certificate _ (rest .0 .0 .1) (rest .0 .1) (rest .1)))
+
 pub judge-sound-spec : {M : Type 1} → statement M
 judge-sound-spec =
     tie.close
@@ -84,8 +99,10 @@ judge-sound-spec =
     judge-ranking-requires
     judge-exclusion-requires
     judge-lasso-requires
+    refused-requires-2
     same-length
     returns-2
     returns-3
     same-length-2
-    returns-4)
+    returns-4
+    returns-5)
