@@ -1,5 +1,6 @@
 // Prints what the calls answer, a line each: of a reading or a writing its numbers; of judging and bound number, place, record, outcome, and the
 // rank list afterwards or the bound. The programs that are held to stored output share it.
+ghost use mathlib.Core.Path.{_≡_};
 use libc::STDOUT_FILENO;
 use record::Reading;
 use record::Writing;
@@ -8,7 +9,9 @@ use verdict::Grade;
 use verdict::Outcome;
 use verdict::Verdict;
 
-pub fn word(text: &[u8]) {
+pub fn word(text: &[u8])
+    ensures { λ r. ⌜ r ≡ tt ⌝ }
+{
     io::write_all(STDOUT_FILENO, text);
 }
 
@@ -18,7 +21,9 @@ fn number(x: usize) {
 }
 
 // Number, place, kind, n, m and the count of values.
-pub fn read(name: &[u8], r: Reading) {
+pub fn read(name: &[u8], r: Reading)
+    ensures { λ r. ⌜ r ≡ tt ⌝ }
+{
     word(name);
     number(r.number);
     number(r.place);
@@ -30,7 +35,9 @@ pub fn read(name: &[u8], r: Reading) {
 }
 
 // Number, place and the count of bytes.
-pub fn written(name: &[u8], w: Writing) {
+pub fn written(name: &[u8], w: Writing)
+    ensures { λ r. ⌜ r ≡ tt ⌝ }
+{
     word(name);
     number(w.number);
     number(w.place);
@@ -88,14 +95,18 @@ fn listed(values: &[i64]) {
 }
 
 // A verdict of judging, and the whole rank list that was lent to it.
-pub fn judged(name: &[u8], v: Verdict, rank: &[i64]) {
+pub fn judged(name: &[u8], v: Verdict, rank: &[i64])
+    ensures { λ r. ⌜ r ≡ tt ⌝ }
+{
     told(name, v);
     word(b" rank");
     listed(rank);
     word(b"\n");
 }
 
-pub fn bounded(name: &[u8], b: Bounded) {
+pub fn bounded(name: &[u8], b: Bounded)
+    ensures { λ r. ⌜ r ≡ tt ⌝ }
+{
     let verdict = b.verdict;
     told(name, verdict);
     word(b" bound");
