@@ -2,6 +2,7 @@ pub mod Accepted
 pub mod BoundAnswers
 pub mod Demands
 pub mod InValues
+pub mod OutcomeNumbers
 pub mod Parts
 pub mod RefusedCalls
 pub mod SampleSheet
