@@ -6,23 +6,28 @@ use Prim.Native.Nat.{ℕ, _≤_}
 use mathlib.Core.List.{List, [], _∷_}
 use native.Mathlib.Omega.{arith}
 use lib.IntN.{ℤ, pos}
-use lib.ListN.{length}
-use Rattle.record.specs.Contents.{rows-values, row-values, lasso-values}
+use lib.ListN.{length, replicate}
+use Rattle.record.specs.Contents.{rows-values, row-values, ranking-values, lasso-values}
 use Rattle.record.specs.Layouts.{ranking, exclusion, lasso}
+use Rattle.record.specs.Ranges.{_to_, either-way, variables, rows, entries, right-sides, multipliers}
 use Rattle.record.specs.Samples as Records
 use Rattle.theory.specs.Loops.{Run}
 use Rattle.theory.specs.Samples as Rows
+use Rattle.record.specs.Writers.{writer}
+use Rattle.theory.specs.Table as Theory
+use Rattle.theory.proofs.Decisions.{ranking-decided}
 use Rattle.theory.proofs.Pins.{S10-stem-step}
 use Rattle.whole.specs.Sums.{Each}
 use Rattle.verdict.specs.Computing.{computing}
 use Rattle.verdict.specs.Contents.{loop-in, ranking-in, exclusion-in, lasso-in}
-use Rattle.verdict.specs.Judging.{judge-of}
+use Rattle.verdict.specs.Judging.{judges, judge-of}
 use Rattle.verdict.specs.Pairs.{Pair, kind-of}
 use Rattle.verdict.specs.Samples.{−, loop-bytes, lasso-bytes, P, with-stem, S1, S10, S10-parts, S10-scaled, unlike-loop, unlike-ranking, excluded-loop, unlike-exclusion, lasso-loop, unlike-lasso}
 use Rattle.verdict.specs.declared.Grade.the-variants.{Whole}
 use Rattle.verdict.specs.declared.Outcome.the-variants.{Ranking, Exclusion, Lasso}
 use Rattle.verdict.proofs.Accepted.{shows}
 use Rattle.verdict.proofs.Demands.{lasso-ends}
+use Rattle.verdict.proofs.InValues.{bytes-in, loop-writer, Loop-given, ranking-in-values}
 use Rattle.verdict.proofs.SampleSheet.{fails, Claim, judged, bounded-at, Holds}
 
 unfoldable pub claims : List Claim
@@ -68,3 +73,20 @@ held-as-rows = (refl, refl, refl, refl, refl, refl, refl, refl, refl, refl, refl
 pub S10-ends : (ys : List (List ℤ)) → Run Rows.S10-loop (pos 5 ∷ pos 1 ∷ []) ys → length ys ≤ 6
 unfolding computing with-stem S10 Records.S10 Rows.S10-loop Rows.S10 loop-bytes rows-values row-values
 S10-ends ys run = lasso-ends with-stem S10 (pos 0 ∷ pos 0 ∷ []) refl refl .steps-after-stem _ _ ys S10-stem-step run
+
+-- ---- the statements in values reach these samples: what they ask of a loop and of a certificate is met, so they accept
+
+loop-given : Loop-given 2 3 (Rows.unlike-loop .rows) (replicate 46 0)
+unfolding Rows.unlike-loop variables rows entries right-sides _to_ either-way Each
+loop-given = record { counts-in = search; rows-in = search; fits = omega arith }
+
+pub ranking-reached :
+    judges (judge-of
+        (bytes-in (loop-writer 2 3 (Rows.unlike-loop .rows) (replicate 46 0)) (replicate 46 0))
+        (bytes-in (writer 2 2 3 (ranking-values (Rows.unlike-ranking .Y) (Rows.unlike-ranking .Z)) (replicate 18 0)) (replicate 18 0))
+        (pos 0 ∷ pos 0 ∷ [])) .number
+    ≡ 0
+unfolding Theory.computing multipliers _to_ Each
+ranking-reached =
+    ranking-in-values 2 3 (Rows.unlike-loop .rows) (Rows.unlike-ranking .Y) (Rows.unlike-ranking .Z) (replicate 46 0) (replicate 18 0) (pos 0 ∷ pos 0 ∷ [])
+    loop-given (search) (omega arith) (omega arith) .1 (ranking-decided Rows.unlike-loop Rows.unlike-ranking .0 refl)
