@@ -9,9 +9,9 @@ use Rattle.endian.specs.Numbers.{littleAt}
 use Rattle.record.specs.Layouts.{Kind, ranking, exclusion, lasso, is-loop, is-certificate, has-rank}
 use Rattle.record.specs.Readers.{Reader, counts-read}
 use Rattle.theory.specs.Exclusions.{ExclusionHolds}
-use Rattle.conditions.specs.Decided.{Decides, RankedBy, LassoBy}
-use Rattle.conditions.specs.Held.{loop-held, ranking-held, exclusion-held, lasso-held}
-use Rattle.conditions.specs.declared.Ranked.{Ranked}
+use Rattle.judge_conditions.specs.Decided.{Decides, RankedBy, LassoBy}
+use Rattle.judge_conditions.specs.Held.{loop-held, ranking-held, exclusion-held, lasso-held}
+use Rattle.judge_conditions.specs.declared.Ranked.{Ranked}
 use Rattle.verdict.specs.Contents.{loop-in, ranking-in, exclusion-in, lasso-in}
 use Rattle.verdict.specs.Judging.{Judging, judges, rank-after, judge-of}
 use Rattle.verdict.specs.Outcomes.{grade-of}

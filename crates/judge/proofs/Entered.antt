@@ -7,9 +7,9 @@ use Rattle.record.specs.Layouts.{Kind, kindOf}
 use Rattle.record.specs.Readers.{Reader, kind, kind-number, counts-read, sound, loop-reader}
 use Rattle.record.proofs.ReadThenWrite.{sound-says}
 use Rattle.refusal.specs.Tests.{done, refused, first}
-use Rattle.checking.specs.Checks.{checked, checks}
-use Rattle.checking.specs.declared.Checked.{Checked}
-use Rattle.checking.proofs.Answers as Answers
+use Rattle.record_check.specs.Checks.{checked, checks}
+use Rattle.record_check.specs.declared.Checked.{Checked}
+use Rattle.record_check.proofs.Answers as Answers
 use Rattle.verdict.specs.Pairs.{loop-record, certificate-record}
 use Rattle.judge.specs.Told.{LoopSound, CertificateSound}
 

@@ -1,5 +1,5 @@
 -- What a sound record's bytes hold, by places: the rows and multipliers that specs/Contents.antt of crate `verdict` takes out of a record's list are tables
--- of the numbers at their places in the bytes. So each sum of the theory is a sum of crate `columns`, and no proof above this file sees a list of values.
+-- of the numbers at their places in the bytes. So each sum of the theory is a sum of crate `judge_sums`, and no proof above this file sees a list of values.
 use mathlib.Core.Path.{_≡_, refl, sym, ap, ap₂, _∙_}
 use Prim.Native.Nat.{ℕ, zero, suc, _+_, _*_}
 use mathlib.Core.List.{List, [], _∷_, _++_, append-assoc, append-nil}
@@ -16,10 +16,10 @@ use Rattle.endian.specs.Numbers.{littleAt}
 use Rattle.record.specs.Fields.{width, widths, number, Field, values}
 use Rattle.record.specs.Readers.{Reader, kind, counts-read, fields, list-start, list}
 use Rattle.record.specs.Layouts.{loop, ranking, exclusion, lasso, is-loop, variable-count, row-count, scale, direction, counts, layout, ahead, listed, entry, right-side, multiplier, row, rowsOf}
-use Rattle.columns.specs.Lists.{multipliersFrom, entriesFrom, rightsFrom, rowFrom, rowsFrom}
-use Rattle.columns.specs.Places.{entryAt, rightAt, multiplierAt, rowAt}
+use Rattle.judge_sums.specs.Lists.{multipliersFrom, entriesFrom, rightsFrom, rowFrom, rowsFrom}
+use Rattle.judge_sums.specs.Places.{entryAt, rightAt, multiplierAt, rowAt}
 use Rattle.theory.specs.Loops.{A, over}
-use Rattle.conditions.specs.Held.{loop-held, ranking-held, exclusion-held, lasso-held, s-place, s0-place, T-place, k2-place, H-place, h0-place, Y-place}
+use Rattle.judge_conditions.specs.Held.{loop-held, ranking-held, exclusion-held, lasso-held, s-place, s0-place, T-place, k2-place, H-place, h0-place, Y-place}
 use Rattle.verdict.specs.Contents.{rows-from, ranking-from, exclusion-from, lasso-from, loop-in, ranking-in, exclusion-in, lasso-in}
 
 -- the number of a field at a place

@@ -8,9 +8,9 @@ use lib.ListN.{length}
 use Rattle.record.specs.Layouts.{Kind, loop, ranking, exclusion, lasso, is-loop, lengthOf}
 use Rattle.record.specs.Readers.{Reader, kind, counts-read, stated-length}
 use Rattle.record.proofs.ReadThenWrite.{Sound, sound-says, loop-only, arguments-read}
-use Rattle.checking.proofs.Answers.{counts-small}
-use Rattle.columns.specs.Places.{RowsIn, MultipliersIn}
-use Rattle.conditions.specs.Held.{LassoIn}
+use Rattle.record_check.proofs.Answers.{counts-small}
+use Rattle.judge_sums.specs.Places.{RowsIn, MultipliersIn}
+use Rattle.judge_conditions.specs.Held.{LassoIn}
 use Rattle.verdict.specs.Pairs.{loop-record, certificate-record}
 use Rattle.judge.specs.Told.{LoopSound, CertificateSound}
 

@@ -31,7 +31,7 @@ fn judge_ranking(rows: &[u8], n: usize, m: usize, certificate: &[u8], rank: &mut
     if rank.len() < n {
         return refused(0, 7, n);
     }
-    let shown = conditions::ranking(rows, n, m, certificate, rank);
+    let shown = judge_conditions::ranking(rows, n, m, certificate, rank);
     if !shown.holds {
         return refused(2, 8, 0);
     }
@@ -51,7 +51,7 @@ fn judge_exclusion(rows: &[u8], n: usize, m: usize, certificate: &[u8]) -> Verdi
     requires { ⌜ LoopSound (now rows) n m × CertificateSound is-certificate (now rows) (now certificate) exclusion ⌝ }
     ensures { λ r. ⌜ ((lent : List ℤ) → Judged (now (rows .entry)) (now (certificate .entry)) lent r lent) ⌝ }
 {
-    if !conditions::exclusion(rows, n, m, certificate) {
+    if !judge_conditions::exclusion(rows, n, m, certificate) {
         return refused(2, 8, 0);
     }
     Verdict {
@@ -90,7 +90,7 @@ fn judge_lasso(
     if rank.len() < n {
         return refused(0, 7, n);
     }
-    let shown = conditions::lasso(rows, n, m, certificate, ms, rank);
+    let shown = judge_conditions::lasso(rows, n, m, certificate, ms, rank);
     if !shown.holds {
         return refused(2, 8, 0);
     }
@@ -110,7 +110,7 @@ pub fn judge_sound(rows: &[u8], n: usize, m: usize, certificate: &[u8], rank: &m
     requires { ⌜ LoopSound (now rows) n m ⌝ }
     ensures { λ r. ⌜ Judged (now (rows .entry)) (now (certificate .entry)) (now (rank .entry)) r (now (rank .exit)) ⌝ }
 {
-    let said = checking::check_certificate(certificate, n, m);
+    let said = record_check::check_certificate(certificate, n, m);
     if said.number != 0 {
         return refused(2, said.number, said.place);
     }
@@ -128,7 +128,7 @@ pub fn judge(rows: &[u8], certificate: &[u8], rank: &mut [i64]) -> Verdict
     ensures { λ r. ⌜ r ≡ judges (judge-of (now (rows .entry)) (now (certificate .entry)) (now (rank .entry))) ⌝ }
     ensures { λ _. ⌜ now (rank .exit) ≡ rank-after (judge-of (now (rows .entry)) (now (certificate .entry)) (now (rank .entry))) (now (rank .entry)) ⌝ }
 {
-    let said = checking::check_loop(rows);
+    let said = record_check::check_loop(rows);
     if said.number != 0 {
         return refused(1, said.number, said.place);
     }

@@ -139,7 +139,7 @@ pub extern "C" fn cushiedoo_read_loop(bytes: &[u8], values: &mut [i64]) -> FlatR
     ensures { λ r. ⌜ r ≡ flat-reading (reads (loop-reader (now (bytes .entry)) (now (values .entry)))) ⌝ }
     ensures { λ _. ⌜ now (values .exit) ≡ fills (loop-reader (now (bytes .entry)) (now (values .entry))) (now (values .entry)) ⌝ }
 {
-    flat_reading(reading::read_loop(bytes, values))
+    flat_reading(record_read::read_loop(bytes, values))
 }
 
 // Reads a certificate record for a loop over n variables with m rows.
@@ -153,7 +153,7 @@ pub extern "C" fn cushiedoo_read_certificate(
     ensures { λ r. ⌜ r ≡ flat-reading (reads (certificate-reader (now (bytes .entry)) n m (now (values .entry)))) ⌝ }
     ensures { λ _. ⌜ now (values .exit) ≡ fills (certificate-reader (now (bytes .entry)) n m (now (values .entry))) (now (values .entry)) ⌝ }
 {
-    flat_reading(reading::read_certificate(bytes, n, m, values))
+    flat_reading(record_read::read_certificate(bytes, n, m, values))
 }
 
 // Writes a record.
@@ -168,7 +168,7 @@ pub extern "C" fn cushiedoo_write_record(
     ensures { λ r. ⌜ r ≡ flat-writing (writes (writer kind n m (now (values .entry)) (now (room .entry)))) ⌝ }
     ensures { λ _. ⌜ now (room .exit) ≡ room-after (writer kind n m (now (values .entry)) (now (room .entry))) (now (room .entry)) ⌝ }
 {
-    flat_writing(writing::write_record(kind, n, m, values, room))
+    flat_writing(record_write::write_record(kind, n, m, values, room))
 }
 
 // ---- verdicts
@@ -187,7 +187,7 @@ pub extern "C" fn cushiedoo_judge(rows: &[u8], certificate: &[u8], rank: &mut [i
 pub extern "C" fn cushiedoo_bound(rows: &[u8], certificate: &[u8], state: &[i64]) -> FlatBounded
     ensures { λ r. ⌜ r ≡ flat-bounded (bounds (bound-of (now (rows .entry)) (now (certificate .entry)) (now (state .entry)))) ⌝ }
 {
-    flat_bounded(bound::bound(rows, certificate, state))
+    flat_bounded(judge_bound::bound(rows, certificate, state))
 }
 
 // ---- the sheet

@@ -9,7 +9,7 @@ use native.Mathlib.Omega.{arith}
 use lib.ListN.{length, take, drop, length-take, take-append-drop}
 use lib.Seq.{take-length}
 use borrow.Author.Tests.{le-leb, leb-true}
-use Rattle.checking.specs.Checks.{framing}
+use Rattle.record_check.specs.Checks.{framing}
 use Rattle.endian.specs.Numbers.{littleAt}
 use Rattle.endian.proofs.Laws.{littleAt-first}
 use Rattle.record.specs.Readers.{Reader, stated-length, sound}

@@ -79,7 +79,7 @@ fn put_judged(text: &mut [u8], rows: &[u8], certificates: &[u8]) -> usize
     requires { ⌜ length (judged (first sound (loop-record (now rows))) (now rows) (now certificates)) ≤ length (now text) ⌝ }
     ensures { λ r. ⌜ Puts (now (text .entry)) 0 (judged (first sound (loop-record (now (rows .entry)))) (now (rows .entry)) (now (certificates .entry))) r (now (text .exit)) ⌝ }
 {
-    let found = checking::check_loop(rows);
+    let found = record_check::check_loop(rows);
     let at = sheet_lines::put_bytes(text, 0, b"loop ");
     if found.number != 0 {
         return sheet_lines::put_refusal(text, at, found.number, found.place);

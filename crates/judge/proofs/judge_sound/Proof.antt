@@ -3,7 +3,7 @@ use mathlib.Core.Path.{ap, _∙_}
 use Rattle.record.specs.Layouts.{ranking, exclusion, lasso, kindOf, is-certificate}
 use Rattle.record.specs.Readers.{certificate-reader}
 use Rattle.verdict.specs.Judging.{judge-of}
-use Rattle.runs.proofs.ByKind.{no-certificate}
+use Rattle.record_fields.proofs.ByKind.{no-certificate}
 use Rattle.judge.proofs.Entered.{certificate-refused, ms-told, no-other, sound-as}
 use Rattle.judge.proofs.Ways.{refused-so, at-certificate}
 use borrow.Author.Needs.{needs}

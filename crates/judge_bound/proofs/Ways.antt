@@ -1,0 +1,59 @@
+-- The ways through a bound call, one for each refusal: what is told of the records and the state, and what the definition then answers.
+use mathlib.Core.Path.{_≡_, _∙_}
+use Prim.Native.Nat.{ℕ}
+use lib.ListN.{length}
+use borrow.Author.Tests.{eq-eqb, ne-eqb}
+use Rattle.record.specs.Readers.{sound}
+use Rattle.refusal.specs.Tests.{done, refused, first}
+use Rattle.refusal.proofs.TestLaws.{passed, failed}
+use Rattle.verdict.specs.Bounding.{Bounding, before-outside, state-tests, invariant, bounding, bounds, bounded}
+use Rattle.verdict.specs.Pairs.{variables-of, conditions}
+use Rattle.verdict.specs.Stages.{refusal, said, verdict-of}
+use Rattle.verdict.proofs.StageLaws.{stage-done, stage-refused}
+use Rattle.judge.proofs.Ways.{told-eight}
+use Rattle.judge_bound.specs.Told.{refusal-of}
+
+pub refused-so : (b : Bounding) (about number place : ℕ) → said bounding b ≡ refusal about number place → refusal-of about number place ≡ bounds b
+unfolding bounds bounded verdict-of
+refused-so b about number place h = rw h
+
+module _ (b : Bounding) where
+  pub at-loop : (k p : ℕ) → first sound (b .records .loop-is) ≡ refused k p → said bounding b ≡ refusal 1 k p
+  unfolding bounding
+  at-loop k p h = stage-refused _ _ _ b k p h
+
+  module _ (loop-sound : first sound (b .records .loop-is) ≡ done) where
+    pub at-certificate : (k p : ℕ) → first sound (b .records .certificate-is) ≡ refused k p → said bounding b ≡ refusal 2 k p
+    unfolding bounding
+    at-certificate k p h = stage-done _ _ _ b loop-sound ∙ stage-refused _ _ _ b k p h
+
+    module _ (certificate-sound : first sound (b .records .certificate-is) ≡ done) where
+      -- a state that has more or fewer entries than the loop has variables
+      pub at-count : (length (b .state) ≡ variables-of (b .records) → ⊥) → said bounding b ≡ refusal 0 10 (length (b .state))
+      unfolding bounding state-tests
+      at-count h =
+          stage-done _ _ _ b loop-sound ∙ stage-done _ _ _ b certificate-sound ∙
+          stage-refused _ _ _ b 10 (length (b .state)) (failed 10 _ _ _ b (ne-eqb _ _ h))
+
+      -- a state with an entry out of range
+      pub at-outside : length (b .state) ≡ variables-of (b .records) → (before-outside (b .state) ≡ length (b .state) → ⊥)
+          → said bounding b ≡ refusal 0 9 (before-outside (b .state))
+      unfolding bounding state-tests
+      at-outside counted h =
+          stage-done _ _ _ b loop-sound ∙ stage-done _ _ _ b certificate-sound ∙
+          stage-refused _ _ _ b 9 (before-outside (b .state)) (passed 10 _ _ _ b (eq-eqb _ _ counted) ∙ failed 9 _ _ _ b (ne-eqb _ _ h))
+
+      module _ (state-told : first state-tests b ≡ done) where
+        -- a condition that fails
+        pub at-conditions : (conditions (b .records) ≡ done → ⊥) → said bounding b ≡ refusal 2 8 0
+        unfolding bounding
+        at-conditions fails =
+            stage-done _ _ _ b loop-sound ∙ stage-done _ _ _ b certificate-sound ∙ stage-done _ _ _ b state-told ∙
+            stage-refused _ _ _ b 8 0 (told-eight (b .records) fails)
+
+        -- a state at which the invariant fails
+        pub at-invariant : conditions (b .records) ≡ done → first invariant b ≡ refused 11 0 → said bounding b ≡ refusal 2 11 0
+        unfolding bounding
+        at-invariant holds fails =
+            stage-done _ _ _ b loop-sound ∙ stage-done _ _ _ b certificate-sound ∙ stage-done _ _ _ b state-told ∙ stage-done _ _ _ b holds ∙
+            stage-refused _ _ _ b 11 0 fails

@@ -1,0 +1,175 @@
+// Bound: how many steps a loop can take from a state, by a certificate that has a rank. Every input has an answer.
+ghost use mathlib.Core.Path.{_≡_};
+ghost use mathlib.Core.Bool.{cond};
+ghost use Prim.Native.Nat.{_+_, _/_, _<_, _≤_};
+ghost use lib.IntN.{pos, natAbs, _-ℤ_};
+ghost use lib.Signed.{ltZ, _<ℤ_};
+ghost use lib.ListN.{length, take};
+ghost use Rattle.whole.specs.Sums.{Within};
+ghost use Rattle.theory.specs.Rankings as Rankings;
+ghost use Rattle.theory.specs.Lassos.{Invariant};
+ghost use Rattle.judge_conditions.specs.Decided.{Decides};
+ghost use Rattle.judge_conditions.specs.Held.{LassoIn, lasso-held};
+ghost use Rattle.record.specs.Layouts.{ranking, lasso, has-rank};
+ghost use Rattle.record.specs.Readers.{counts-read};
+ghost use Rattle.verdict.specs.Bounding.{before-outside, bounds, bound-of};
+ghost use Rattle.verdict.specs.Pairs.{loop-record, certificate-record};
+ghost use Rattle.judge.specs.Told.{LoopSound, CertificateSound};
+ghost use Rattle.judge_bound.specs.Told.{refusal-of, StateFits, Ready};
+use verdict::Bounded;
+use verdict::Outcome;
+use verdict::Verdict;
+
+fn refused(about: usize, number: usize, place: usize) -> Bounded
+    ensures { λ r. ⌜ r ≡ refusal-of about number place ⌝ }
+{
+    Bounded {
+        verdict: Verdict {
+            number: number,
+            place: place,
+            about: about,
+            outcome: Outcome::Nothing,
+        },
+        bound: 0,
+    }
+}
+
+// How many entries stand before the first that is out of range.
+fn before_outside(state: &[i64]) -> usize
+    ensures { λ r. ⌜ r ≡ before-outside (now (state .entry)) ⌝ }
+{
+    let mut i = 0;
+    while i < state.len() {
+        if !record_list_faults::between(state[i], -1000000, 1000000) {
+            return i;
+        }
+        i += 1;
+    }
+    i
+}
+
+// 0 if a value lies below the start; otherwise the whole part of how often the fall goes into what is above it, plus 1.
+fn steps(value: i64, start: i64, fall: i64) -> usize
+    requires { ⌜ (natAbs (value -ℤ start) < 9223372036854775808) × (pos 0 <ℤ fall) ⌝ }
+    ensures { λ r. ⌜ r ≡ cond (ltZ value start) 0 (natAbs (value -ℤ start) / natAbs fall + 1) ⌝ }
+{
+    if value < start {
+        return 0;
+    }
+    (value - start) as usize / fall as usize + 1
+}
+
+// The bound at a state by a rank, its start and its fall.
+fn bound_at(entries: &[i64], n: usize, start: i64, fall: i64, state: &[i64]) -> usize
+    requires { ⌜ Ready (now entries) n start fall (now state) × (n ≤ 16) × (length (now state) ≡ n) ⌝ }
+    ensures { λ r. ⌜ r ≡ Rankings.bound (take n (now (entries .entry))) start fall (now (state .entry)) ⌝ }
+{
+    let value = judge_sums::rank_at(&entries[..n], state);
+    steps(value.sum, start, fall)
+}
+
+// Kind 2, of sound records and a state in range.
+fn bound_ranking(rows: &[u8], n: usize, m: usize, certificate: &[u8], state: &[i64]) -> Bounded
+    requires { ⌜ LoopSound (now rows) n m × CertificateSound has-rank (now rows) (now certificate) ranking × StateFits (now state) n ⌝ }
+    ensures { λ r. ⌜ r ≡ bounds (bound-of (now (rows .entry)) (now (certificate .entry)) (now (state .entry))) ⌝ }
+{
+    let mut entries = [0i64; 16];
+    let shown = judge_conditions::ranking(rows, n, m, certificate, &mut entries);
+    if !shown.holds {
+        return refused(2, 8, 0);
+    }
+    Bounded {
+        verdict: Verdict {
+            number: 0,
+            place: 0,
+            about: 0,
+            outcome: Outcome::Ranking {
+                start: shown.start,
+                fall: shown.fall,
+            },
+        },
+        bound: bound_at(&entries, n, shown.start, shown.fall, state),
+    }
+}
+
+// A lasso's invariant at a state.
+fn meets_invariant(certificate: &[u8], n: usize, m: usize, ms: usize, state: &[i64]) -> bool
+    requires { ⌜ LassoIn (now certificate) n m ms × (length (now state) ≡ n) × Within 1048576 (now state) ⌝ }
+    ensures { λ r. ⌜ Decides r (Invariant (lasso-held (now (certificate .entry)) n m ms) (now (state .entry))) ⌝ }
+{
+    let s = 8 + ms * (4 * n + 4);
+    let reached = judge_sums::entries_at(certificate, s, state);
+    let right = endian::i32_at(certificate, s + 2 * n);
+    0 <= reached.sum + right
+}
+
+// Kind 4, of sound records and a state in range.
+fn bound_lasso(
+    rows: &[u8],
+    n: usize,
+    m: usize,
+    certificate: &[u8],
+    ms: usize,
+    state: &[i64],
+) -> Bounded
+    requires { ⌜ LoopSound (now rows) n m × CertificateSound has-rank (now rows) (now certificate) lasso
+        × (ms ≡ counts-read (certificate-record has-rank (loop-record (now rows)) (now certificate)) .ms) × StateFits (now state) n ⌝ }
+    ensures { λ r. ⌜ r ≡ bounds (bound-of (now (rows .entry)) (now (certificate .entry)) (now (state .entry))) ⌝ }
+{
+    let mut entries = [0i64; 16];
+    let shown = judge_conditions::lasso(rows, n, m, certificate, ms, &mut entries);
+    if !shown.holds {
+        return refused(2, 8, 0);
+    }
+    if !meets_invariant(certificate, n, m, ms, state) {
+        return refused(2, 11, 0);
+    }
+    Bounded {
+        verdict: Verdict {
+            number: 0,
+            place: 0,
+            about: 0,
+            outcome: Outcome::Lasso {
+                start: shown.start,
+                fall: shown.fall,
+            },
+        },
+        bound: bound_at(&entries, n, shown.start, shown.fall, state),
+    }
+}
+
+// A certificate and a state for a loop record that has been checked.
+fn bound_sound(rows: &[u8], n: usize, m: usize, certificate: &[u8], state: &[i64]) -> Bounded
+    requires { ⌜ LoopSound (now rows) n m ⌝ }
+    ensures { λ r. ⌜ r ≡ bounds (bound-of (now (rows .entry)) (now (certificate .entry)) (now (state .entry))) ⌝ }
+{
+    let said = record_check::check_ranked(certificate, n, m);
+    if said.number != 0 {
+        return refused(2, said.number, said.place);
+    }
+    let long = state.len();
+    if long != n {
+        return refused(0, 10, long);
+    }
+    let inside = before_outside(state);
+    if inside != long {
+        return refused(0, 9, inside);
+    }
+    let kind = said.kind;
+    match kind {
+        2 => bound_ranking(rows, n, m, certificate, state),
+        4 => bound_lasso(rows, n, m, certificate, said.ms, state),
+        _ => refused(2, 4, 4),
+    }
+}
+
+// The bound on steps from a state, by a certificate's bytes for a loop's bytes.
+pub fn bound(rows: &[u8], certificate: &[u8], state: &[i64]) -> Bounded
+    ensures { λ r. ⌜ r ≡ bounds (bound-of (now (rows .entry)) (now (certificate .entry)) (now (state .entry))) ⌝ }
+{
+    let said = record_check::check_loop(rows);
+    if said.number != 0 {
+        return refused(1, said.number, said.place);
+    }
+    bound_sound(rows, said.n, said.m, certificate, state)
+}

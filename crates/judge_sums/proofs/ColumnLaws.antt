@@ -1,0 +1,68 @@
+-- What the loops over rows share: a row lies within the bytes, and a column's totals begin and take one row more.
+use Prim.Native.Nat.{ℕ, _+_, _*_, _≤_, _<_}
+use mathlib.Core.Path.{_≡_}
+use mathlib.Core.List.{List}
+use native.Mathlib.Nat.{mul-le-mul-right}
+use native.Mathlib.Omega.{arith}
+use lib.IntN.{ℤ, pos, _*ℤ_}
+use lib.ListN.{length}
+use Rattle.endian.specs.Numbers.{littleAt}
+use Rattle.judge_sums.specs.Places.{entryAt, rightAt, multiplierAt, rowAt, nowTerm, nextTerm, alongTerm, RowsIn, Visited, ColumnOf, AlongOf, mostEntry, mostAlong}
+use Rattle.judge_sums.specs.Running.{Adds}
+use Rattle.judge_sums.proofs.SumLaws.{sum-none, sum-more, adds-nothing}
+
+pub row-inside : (bytes : List ℕ) (start n count i : ℕ) → RowsIn bytes start n count → i < count → rowAt start n (i + 1) ≤ length bytes
+row-inside bytes start n count i rows below = omega (arith, rows .inside, mul-le-mul-right (4 * n + 4) below)
+
+-- a row without weight
+pub visited-nothing : (multiplier : ℕ) (rows : List ℕ) (first second : ℕ) (now next : ℤ) → multiplier ≡ 0 → Visited multiplier rows first second now next now next
+visited-nothing multiplier rows first second now next none =
+    record { now-adds = adds-nothing mostEntry none (entryAt rows first) now; next-adds = adds-nothing mostEntry none (entryAt rows second) next }
+
+module _ (multipliers : List ℕ) (place : ℕ) (rows : List ℕ) (start n j : ℕ) where
+  pub column-none : {now next : ℤ} → (now ≡ pos 0) × (next ≡ pos 0) → ColumnOf multipliers place rows start n j 0 now next
+  column-none h =
+      record {
+        now-sum = sum-none mostEntry (nowTerm multipliers place rows start n j) (h .0);
+        next-sum = sum-none mostEntry (nextTerm multipliers place rows start n j) (h .1);
+      }
+
+  pub column-more : (i multiplier at : ℕ) {now next now′ next′ : ℤ} → ColumnOf multipliers place rows start n j i now next
+      → multiplier ≡ littleAt 2 multipliers (place + 2 * i) → at ≡ rowAt start n i
+      → Visited multiplier rows (at + 2 * j) (at + (2 * n + 2 * j)) now next now′ next′
+      → ColumnOf multipliers place rows start n j (i + 1) now′ next′
+  unfolding multiplierAt nowTerm nextTerm
+  column-more i multiplier at h read here more =
+      record {
+        now-sum = sum-more mostEntry (nowTerm multipliers place rows start n j) i (h .now-sum) (rw (read, here) at (more .now-adds));
+        next-sum = sum-more mostEntry (nextTerm multipliers place rows start n j) i (h .next-sum) (rw (read, here) at (more .next-adds));
+      }
+
+-- ---- along a row
+
+module _ (rows : List ℕ) (row n : ℕ) (certificate : List ℕ) (place : ℕ) where
+  pub along-none : {v u now next : ℤ} → v ≡ pos 0 → u ≡ pos 0 → now ≡ pos 0 → next ≡ pos 0 → AlongOf rows row n certificate place 0 v u now next
+  along-none hv hu hnow hnext =
+      record {
+        v-sum = sum-none mostAlong (alongTerm rows row certificate (place + 4 * n)) hv;
+        u-sum = sum-none mostAlong (alongTerm rows (row + 2 * n) certificate place) hu;
+        now-sum = sum-none mostAlong (alongTerm rows row certificate (place + 8 * n)) hnow;
+        next-sum = sum-none mostAlong (alongTerm rows (row + 2 * n) certificate (place + 8 * n)) hnext;
+      }
+
+  pub along-more : (j : ℕ) {v u now next v′ u′ now′ next′ : ℤ} → AlongOf rows row n certificate place j v u now next
+      → let first = row + 2 * j in
+      let second = row + 2 * n + 2 * j in
+      Adds mostAlong (entryAt rows first *ℤ rightAt certificate (place + 4 * n + 4 * j)) v v′
+      × Adds mostAlong (entryAt rows second *ℤ rightAt certificate (place + 4 * j)) u u′
+      × Adds mostAlong (entryAt rows first *ℤ rightAt certificate (place + 8 * n + 4 * j)) now now′
+      × Adds mostAlong (entryAt rows second *ℤ rightAt certificate (place + 8 * n + 4 * j)) next next′
+      → AlongOf rows row n certificate place (j + 1) v′ u′ now′ next′
+  unfolding alongTerm
+  along-more j h more =
+      record {
+        v-sum = sum-more mostAlong (alongTerm rows row certificate (place + 4 * n)) j (h .v-sum) (more .0);
+        u-sum = sum-more mostAlong (alongTerm rows (row + 2 * n) certificate place) j (h .u-sum) (more .1);
+        now-sum = sum-more mostAlong (alongTerm rows row certificate (place + 8 * n)) j (h .now-sum) (more .2);
+        next-sum = sum-more mostAlong (alongTerm rows (row + 2 * n) certificate (place + 8 * n)) j (h .next-sum) (more .3);
+      }

@@ -1,0 +1,145 @@
+-- `judge_sums::add_rows` meets its contract: before each turn the totals are those of the rows so far, and the next row starts at `at`. Assumes nothing.
+use Prim.Native.Nat.{_+_, _*_, _-_, _≤_, _<_}
+use mathlib.Core.Path.{_≡_}
+use native.Mathlib.Omega.{arith}
+use lib.ListN.{length}
+use Rattle.judge_sums.specs.Places.{rowAt, RestStays, SumsOf}
+use Rattle.judge_sums.proofs.ColumnLaws.{row-inside}
+use Rattle.judge_sums.proofs.LiftLaws.{rest-none, rest-more, sums-none, sums-more, sums-grow}
+use borrow.Author.Needs.{needs}
+use Rattle.judge_sums.proofs.add_rows.Statement.{statement}
+use Rattle.judge_sums.proofs.add_rows.Tie as tie
+
+abbrev Inv-loop : tie.InvT-loop
+Inv-loop ys₀ zs₀ rows start n multipliers y z count stride at₀ i₀ ys zs at i =
+    (i ≤ count) × (at ≡ rowAt start n i) × RestStays (2 * n) ys₀ ys × RestStays (2 * n) zs₀ zs
+    × SumsOf multipliers y rows start n i ys × SumsOf multipliers z rows start n i zs
+
+abbrev μ-loop : tie.MeasureT-loop
+μ-loop ys₀ zs₀ rows start n multipliers y z count stride at₀ i₀ ys zs at i = count - i
+
+-- the row of this turn lies within the bytes
+inside : (c : tie.In-loop Inv-loop μ-loop)
+    → let args = c .before .before .before .before .args in rowAt (args .start) (args .n) (c .before .loop .i + 1) ≤ length (args .rows .now)
+inside c =
+    let start = c .before .before .before .before in
+    row-inside (start .args .rows .now) (start .args .start) (start .args .n) (start .args .count) (c .before .loop .i) (start .pre .4) (c .loop-test .taken)
+
+mul-stride : tie.Need-mul-stride Inv-loop μ-loop
+mul-stride c = search needs
+
+add-stride : tie.Need-add-stride Inv-loop μ-loop
+add-stride c = search needs
+
+loop-holds : tie.Need-loop-holds Inv-loop μ-loop
+loop-holds c =
+    let start = c .before .before in
+    let a = start .args in (
+      omega arith,
+      omega arith,
+      rest-none (2 * a .n) (a .ys .now),
+      rest-none (2 * a .n) (a .zs .now),
+      sums-none (a .multipliers .now) (a .y) (a .rows .now) (a .start) (a .n) (a .ys .now) (start .pre .2),
+      sums-none (a .multipliers .now) (a .z) (a .rows .now) (a .start) (a .n) (a .zs .now) (start .pre .3),
+    )
+
+mul-u16-at : tie.Need-mul-u16-at Inv-loop μ-loop
+mul-u16-at c = search needs
+
+add-u16-at : tie.Need-add-u16-at Inv-loop μ-loop
+add-u16-at c = search needs
+
+u16-at-requires : tie.Need-u16-at-requires Inv-loop μ-loop
+u16-at-requires c κs = search needs
+
+mul-u16-at-2 : tie.Need-mul-u16-at-2 Inv-loop μ-loop
+mul-u16-at-2 c = search needs
+
+add-u16-at-2 : tie.Need-add-u16-at-2 Inv-loop μ-loop
+add-u16-at-2 c = search needs
+
+u16-at-requires-2 : tie.Need-u16-at-requires-2 Inv-loop μ-loop
+u16-at-requires-2 c κs = search needs
+
+mul-add-row : tie.Need-mul-add-row Inv-loop μ-loop
+mul-add-row c = search needs
+
+add-row-requires : tie.Need-add-row-requires Inv-loop μ-loop
+add-row-requires c κs =
+    let second = c .before .before in
+    let first = second .before in
+    let turn = first .before .before in
+    let start = turn .before .before .before in
+    let a = start .args in
+    let row = inside (first .before) in
+    let few : turn .loop .i < 16384 = omega (arith, first .before .loop-test .taken, start .pre .4 .few) in (
+      omega (arith, turn .loop .inv .2 .long, start .pre .0),
+      omega (arith, turn .loop .inv .3 .long, start .pre .1),
+      sums-grow (a .multipliers .now) (a .y) (a .rows .now) (a .start) (a .n) (turn .loop .i) (turn .loop .ys) (turn .loop .inv .4) few,
+      sums-grow (a .multipliers .now) (a .z) (a .rows .now) (a .start) (a .n) (turn .loop .i) (turn .loop .zs) (turn .loop .inv .5) few,
+      first .u16-at .ensures .1,
+      second .u16-at2 .ensures .1,
+      omega (arith, row, turn .loop .inv .1),
+    )
+
+add-at : tie.Need-add-at Inv-loop μ-loop
+add-at c = let row = inside (c .before .before .before .before .before .before .before) in search needs
+
+add-i : tie.Need-add-i Inv-loop μ-loop
+add-i c = search needs
+
+loop-less : tie.Need-loop-less Inv-loop μ-loop
+loop-less c = search needs
+
+loop-again : tie.Need-loop-again Inv-loop μ-loop
+loop-again c =
+    let called = c .before .before .add-row in
+    let second = c .before .before .before .before .before .u16-at2 in
+    let first = c .before .before .before .before .before .before .u16-at in
+    let turn = c .before .before .before .before .before .before .before .before in
+    let a = turn .before .before .before .args in (
+      omega arith,
+      omega arith,
+      rest-more (turn .loop .inv .2) (called .ensures .0),
+      rest-more (turn .loop .inv .3) (called .ensures .1),
+      sums-more (a .multipliers .now) (a .y) (a .rows .now) (a .start) (a .n) (turn .loop .i) (first .result) (turn .loop .at) (turn .loop .ys) (called .last .0)
+          (turn .loop .inv .4) (first .ensures .0) (first .ensures .1) (turn .loop .inv .1) (called .ensures .0),
+      sums-more (a .multipliers .now) (a .z) (a .rows .now) (a .start) (a .n) (turn .loop .i) (second .result) (turn .loop .at) (turn .loop .zs) (called .last .1 .0)
+          (turn .loop .inv .5) (second .ensures .0) (second .ensures .1) (turn .loop .inv .1) (called .ensures .1),
+    )
+
+same-length : tie.Need-same-length Inv-loop μ-loop
+same-length c = c .before .loop .inv .2 .long
+
+same-length-2 : tie.Need-same-length-2 Inv-loop μ-loop
+same-length-2 c = c .before .loop .inv .3 .long
+
+returns : tie.Need-returns Inv-loop μ-loop
+returns c =
+    let end : c .before .loop .i ≡ c .before .before .before .before .args .count = omega arith in
+    (rw end at (c .before .loop .inv .4), rw end at (c .before .loop .inv .5), c .before .loop .inv .2, c .before .loop .inv .3)
+
+pub add-rows-spec : {M : Type 1} → statement M
+add-rows-spec =
+    tie.close
+    (tie.spec
+    Inv-loop
+    μ-loop
+    mul-stride
+    add-stride
+    loop-holds
+    mul-u16-at
+    add-u16-at
+    u16-at-requires
+    mul-u16-at-2
+    add-u16-at-2
+    u16-at-requires-2
+    mul-add-row
+    add-row-requires
+    add-at
+    add-i
+    loop-less
+    loop-again
+    same-length
+    same-length-2
+    returns)

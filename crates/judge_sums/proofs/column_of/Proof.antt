@@ -1,0 +1,118 @@
+-- `judge_sums::column_of` meets its contract: before each turn the totals are those of the rows so far, and the next row starts at `at`. Assumes nothing.
+use Prim.Native.Nat.{_+_, _-_, _≤_}
+use mathlib.Core.Path.{_≡_}
+use native.Mathlib.Omega.{arith}
+use lib.ListN.{length}
+use Rattle.judge_sums.specs.Places.{rowAt, ColumnOf}
+use Rattle.judge_sums.proofs.ColumnLaws.{row-inside, column-none, column-more}
+use borrow.Author.Needs.{needs}
+use Rattle.judge_sums.proofs.column_of.Statement.{statement}
+use Rattle.judge_sums.proofs.column_of.Tie as tie
+
+abbrev Inv-loop : tie.InvT-loop
+Inv-loop rows start n j multipliers place count stride first second column₀ at₀ i₀ column at i =
+    (i ≤ count) × (at ≡ rowAt start n i) × ColumnOf multipliers place rows start n j i (column .now .sum) (column .next .sum)
+
+abbrev μ-loop : tie.MeasureT-loop
+μ-loop rows start n j multipliers place count stride first second column₀ at₀ i₀ column at i = count - i
+
+-- the row of this turn lies within the bytes
+inside : (c : tie.In-loop Inv-loop μ-loop)
+    → let args = c .before .before .before .before .before .args in rowAt (args .start) (args .n) (c .before .loop .i + 1) ≤ length (args .rows .now)
+inside c =
+    let start = c .before .before .before .before .before in
+    row-inside (start .args .rows .now) (start .args .start) (start .args .n) (start .args .count) (c .before .loop .i) (start .pre .0) (c .loop-test .taken)
+
+mul-stride : tie.Need-mul-stride Inv-loop μ-loop
+mul-stride c = search needs
+
+add-stride : tie.Need-add-stride Inv-loop μ-loop
+add-stride c = search needs
+
+mul-first : tie.Need-mul-first Inv-loop μ-loop
+mul-first c = search needs
+
+mul-second : tie.Need-mul-second Inv-loop μ-loop
+mul-second c = search needs
+
+mul-second-2 : tie.Need-mul-second-2 Inv-loop μ-loop
+mul-second-2 c = search needs
+
+add-second : tie.Need-add-second Inv-loop μ-loop
+add-second c = search needs
+
+new-requires : tie.Need-new-requires Inv-loop μ-loop
+new-requires c κs = search needs
+
+loop-holds : tie.Need-loop-holds Inv-loop μ-loop
+loop-holds c =
+    let args = c .before .before .before .args in
+    (omega arith, omega arith, column-none (args .multipliers .now) (args .place) (args .rows .now) (args .start) (args .n) (args .j) (c .new .ensures))
+
+mul-u16-at : tie.Need-mul-u16-at Inv-loop μ-loop
+mul-u16-at c = search needs
+
+add-u16-at : tie.Need-add-u16-at Inv-loop μ-loop
+add-u16-at c = search needs
+
+u16-at-requires : tie.Need-u16-at-requires Inv-loop μ-loop
+u16-at-requires c κs = search needs
+
+add-visit : tie.Need-add-visit Inv-loop μ-loop
+add-visit c = let row = inside (c .before) in search needs
+
+add-visit-2 : tie.Need-add-visit-2 Inv-loop μ-loop
+add-visit-2 c = let row = inside (c .before) in search needs
+
+visit-requires : tie.Need-visit-requires Inv-loop μ-loop
+visit-requires c κs = let row = inside (c .before) in search needs
+
+add-at : tie.Need-add-at Inv-loop μ-loop
+add-at c = let row = inside (c .before .before) in search needs
+
+add-i : tie.Need-add-i Inv-loop μ-loop
+add-i c = search needs
+
+loop-less : tie.Need-loop-less Inv-loop μ-loop
+loop-less c = search needs
+
+loop-again : tie.Need-loop-again Inv-loop μ-loop
+loop-again c =
+    let turn = c .before .before .before in
+    let args = turn .before .before .before .before .args in (
+      omega arith,
+      omega arith,
+      column-more (args .multipliers .now) (args .place) (args .rows .now) (args .start) (args .n) (args .j) (turn .loop .i)
+          (c .before .u16-at .result) (turn .loop .at) (turn .loop .inv .2) (c .before .u16-at .ensures .0) (turn .loop .inv .1) (c .visit .ensures),
+    )
+
+returns : tie.Need-returns Inv-loop μ-loop
+returns c =
+    let end : c .before .loop .i ≡ c .before .before .before .before .before .args .count = omega arith in
+    rw end at (c .before .loop .inv .2)
+
+pub column-of-spec : {M : Type 1} → statement M
+column-of-spec =
+    tie.close
+    (tie.spec
+    Inv-loop
+    μ-loop
+    mul-stride
+    add-stride
+    mul-first
+    mul-second
+    mul-second-2
+    add-second
+    new-requires
+    loop-holds
+    mul-u16-at
+    add-u16-at
+    u16-at-requires
+    add-visit
+    add-visit-2
+    visit-requires
+    add-at
+    add-i
+    loop-less
+    loop-again
+    returns)

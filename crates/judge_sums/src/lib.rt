@@ -1,0 +1,330 @@
+// The sums of a judge, taken straight from the bytes of the records: nothing is unpacked. Each is a
+// running sum (`Total`) that takes one row, or one column, after another; totals that meet the same
+// row share its visit. A ranking's totals of all columns lie side by side in lists, so that a row is
+// added to several at once. The sums know rows and multipliers by their places alone, so they serve
+// loop rows and stem rows and every kind of certificate.
+//
+// `count` rows over n variables lie in `rows` from `start` on, and as many multipliers in
+// `multipliers` from a place on. Every total comes with its size, so that a caller may add to it.
+ghost use Prim.Native.Nat.{_+_, _*_, _≤_, _<_};
+ghost use mathlib.Core.Path.{_≡_};
+ghost use lib.IntN.{pos, natAbs, _*ℤ_};
+ghost use lib.ListN.{length};
+ghost use Rattle.whole.specs.Sums.{dot, Within};
+ghost use Rattle.judge_sums.specs.Places.{entryAt, rightAt, rightTerm, stateTerm, liftTerm, Lifts, RowAdded, RestStays, AllGrow, AllNone, SumsOf, RowsIn, MultipliersIn, Visited, ColumnOf, AlongOf, directionOf, stepOf, mostEntry, mostRight, mostAlong, mostState, mostRank};
+ghost use Rattle.judge_sums.specs.Running.{CanGrow, Adds, SumOf};
+use whole::Total;
+
+// A total and one term more: the multiplier times the entry at a place.
+fn add_entry(total: Total, multiplier: usize, rows: &[u8], place: usize) -> Total
+    requires { ⌜ CanGrow (total .sum) × (multiplier < 65536) × (place + 2 ≤ length (now rows)) ⌝ }
+    ensures { λ r. ⌜ Adds mostEntry (pos multiplier *ℤ entryAt (now (rows .entry)) place) (total .sum) (r .sum) ⌝ }
+{
+    total.plus(multiplier as i64, endian::i16_at(rows, place))
+}
+
+// The same with a right side.
+fn add_right(total: Total, multiplier: usize, rows: &[u8], place: usize) -> Total
+    requires { ⌜ CanGrow (total .sum) × (multiplier < 65536) × (place + 4 ≤ length (now rows)) ⌝ }
+    ensures { λ r. ⌜ Adds mostRight (pos multiplier *ℤ rightAt (now (rows .entry)) place) (total .sum) (r .sum) ⌝ }
+{
+    total.plus(multiplier as i64, endian::i32_at(rows, place))
+}
+
+// A total and one term more: an entry of a row times an entry of U, V or W, each at its place.
+fn add_product(total: Total, rows: &[u8], entry: usize, certificate: &[u8], place: usize) -> Total
+    requires { ⌜ CanGrow (total .sum) × (entry + 2 ≤ length (now rows)) × (place + 4 ≤ length (now certificate)) ⌝ }
+    ensures { λ r. ⌜ Adds mostAlong (entryAt (now (rows .entry)) entry *ℤ rightAt (now (certificate .entry)) place) (total .sum) (r .sum) ⌝ }
+{
+    total.plus(
+        endian::i16_at(rows, entry),
+        endian::i32_at(certificate, place),
+    )
+}
+
+// One column's totals under one list of multipliers: over A, and over A'.
+pub struct Column {
+    pub now: Total,
+    pub next: Total,
+}
+
+impl Column {
+    fn new() -> Column
+        ensures { λ r. ⌜ (r .now .sum ≡ pos 0) × (r .next .sum ≡ pos 0) ⌝ }
+    {
+        Column {
+            now: Total::new(),
+            next: Total::new(),
+        }
+    }
+
+    // One row more: its entries at two places, each times the multiplier. A row without weight is
+    // not read.
+    fn visit(self, multiplier: usize, rows: &[u8], first: usize, second: usize) -> Column
+        requires { ⌜ CanGrow (self .now .sum) × CanGrow (self .next .sum) × (multiplier < 65536)
+            × (first + 2 ≤ length (now rows)) × (second + 2 ≤ length (now rows)) ⌝ }
+        ensures { λ r. ⌜ Visited multiplier (now (rows .entry)) first second (self .now .sum) (self .next .sum) (r .now .sum) (r .next .sum) ⌝ }
+    {
+        if multiplier == 0 {
+            return self;
+        }
+        let now = self.now;
+        let next = self.next;
+        Column {
+            now: add_entry(now, multiplier, rows, first),
+            next: add_entry(next, multiplier, rows, second),
+        }
+    }
+}
+
+// The totals of column j, over A and over A', under one list of multipliers.
+pub fn column_of(
+    rows: &[u8],
+    start: usize,
+    n: usize,
+    j: usize,
+    multipliers: &[u8],
+    place: usize,
+    count: usize,
+) -> Column
+    requires { ⌜ RowsIn (now rows) start n count × (j < n) × MultipliersIn (now multipliers) place count ⌝ }
+    ensures { λ r. ⌜ ColumnOf (now (multipliers .entry)) place (now (rows .entry)) start n j count (r .now .sum) (r .next .sum) ⌝ }
+{
+    let stride = 4 * n + 4;
+    let first = 2 * j;
+    let second = 2 * n + 2 * j;
+    let mut column = Column::new();
+    let mut at = start;
+    for i in 0..count {
+        column = column.visit(
+            endian::u16_at(multipliers, place + 2 * i),
+            rows,
+            at + first,
+            at + second,
+        );
+        at += stride;
+    }
+    column
+}
+
+// A total and one term more: the multiplier times the lifted entry at a place.
+fn add_lifted(sum: i64, multiplier: usize, rows: &[u8], place: usize) -> i64
+    requires { ⌜ CanGrow sum × (multiplier < 65536) × (place + 2 ≤ length (now rows)) ⌝ }
+    ensures { λ r. ⌜ Lifts multiplier (entryAt (now (rows .entry)) place) sum r ⌝ }
+{
+    let total = Total { sum: sum };
+    let more = total.plus(multiplier as i64, endian::lifted_at(rows, place));
+    more.sum
+}
+
+// One row more for two lists of totals: the row's entries are read in one visit, several at once,
+// and not at all where neither list gives the row weight.
+fn add_row(
+    ys: &mut [i64],
+    zs: &mut [i64],
+    y: usize,
+    z: usize,
+    rows: &[u8],
+    row: usize,
+    width: usize,
+)
+    requires { ⌜ (width ≤ length (now ys)) × (width ≤ length (now zs)) × AllGrow width (now ys) × AllGrow width (now zs)
+        × (y < 65536) × (z < 65536) × (row + 2 * width ≤ length (now rows)) ⌝ }
+    ensures { λ _. ⌜ RowAdded y (now (rows .entry)) row width (now (ys .entry)) (now (ys .exit))
+        × RowAdded z (now (rows .entry)) row width (now (zs .entry)) (now (zs .exit)) ⌝ }
+{
+    if y + z == 0 {
+        return;
+    }
+    for k in 0..width {
+        ys[k] = add_lifted(ys[k], y, rows, row + 2 * k);
+        zs[k] = add_lifted(zs[k], z, rows, row + 2 * k);
+    }
+}
+
+// The totals of all columns under two lists of multipliers, in one visit of each row. The lists of
+// totals start as zeros; every entry is lifted, as `lift_of` tells. Past the columns they stay.
+pub fn add_rows(
+    ys: &mut [i64],
+    zs: &mut [i64],
+    rows: &[u8],
+    start: usize,
+    n: usize,
+    multipliers: &[u8],
+    y: usize,
+    z: usize,
+    count: usize,
+)
+    requires { ⌜ (2 * n ≤ length (now ys)) × (2 * n ≤ length (now zs)) × AllNone (2 * n) (now ys) × AllNone (2 * n) (now zs)
+        × RowsIn (now rows) start n count × MultipliersIn (now multipliers) y count × MultipliersIn (now multipliers) z count ⌝ }
+    ensures { λ _. ⌜ SumsOf (now (multipliers .entry)) y (now (rows .entry)) start n count (now (ys .exit))
+        × SumsOf (now (multipliers .entry)) z (now (rows .entry)) start n count (now (zs .exit))
+        × RestStays (2 * n) (now (ys .entry)) (now (ys .exit)) × RestStays (2 * n) (now (zs .entry)) (now (zs .exit)) ⌝ }
+{
+    let stride = 4 * n + 4;
+    let mut at = start;
+    for i in 0..count {
+        let under_y = endian::u16_at(multipliers, y + 2 * i);
+        let under_z = endian::u16_at(multipliers, z + 2 * i);
+        add_row(ys, zs, under_y, under_z, rows, at, 2 * n);
+        at += stride;
+    }
+}
+
+// The total of the lifts under one list of multipliers: what each column's total has too much.
+pub fn lift_of(multipliers: &[u8], place: usize, count: usize) -> Total
+    requires { ⌜ MultipliersIn (now multipliers) place count × (count < 16384) ⌝ }
+    ensures { λ r. ⌜ SumOf count mostEntry (liftTerm (now (multipliers .entry)) place) (r .sum) ⌝ }
+{
+    let mut total = Total::new();
+    for i in 0..count {
+        let multiplier = endian::u16_at(multipliers, place + 2 * i);
+        total = total.plus(multiplier as i64, 32768);
+    }
+    total
+}
+
+// The total of the right sides under one list of multipliers.
+pub fn right_of(
+    rows: &[u8],
+    start: usize,
+    n: usize,
+    multipliers: &[u8],
+    place: usize,
+    count: usize,
+) -> Total
+    requires { ⌜ RowsIn (now rows) start n count × MultipliersIn (now multipliers) place count ⌝ }
+    ensures { λ r. ⌜ SumOf count mostRight (rightTerm (now (multipliers .entry)) place (now (rows .entry)) start n) (r .sum) ⌝ }
+{
+    let stride = 4 * n + 4;
+    let right = 4 * n;
+    let mut total = Total::new();
+    let mut at = start;
+    for i in 0..count {
+        total = add_right(
+            total,
+            endian::u16_at(multipliers, place + 2 * i),
+            rows,
+            at + right,
+        );
+        at += stride;
+    }
+    total
+}
+
+// One row's totals under an exclusion: A·V, A'·U, A·W and A'·W.
+struct RowTotals {
+    v: Total,
+    u: Total,
+    now: Total,
+    next: Total,
+}
+
+impl RowTotals {
+    // One column more: the row's entries at two places, and those of U, V and W.
+    fn visit(
+        self,
+        rows: &[u8],
+        first: usize,
+        second: usize,
+        certificate: &[u8],
+        u: usize,
+        v: usize,
+        w: usize,
+    ) -> RowTotals
+        requires { ⌜ CanGrow (self .v .sum) × CanGrow (self .u .sum) × CanGrow (self .now .sum) × CanGrow (self .next .sum)
+            × (first + 2 ≤ length (now rows)) × (second + 2 ≤ length (now rows))
+            × (u + 4 ≤ length (now certificate)) × (v + 4 ≤ length (now certificate)) × (w + 4 ≤ length (now certificate)) ⌝ }
+        ensures { λ r. ⌜ Adds mostAlong (entryAt (now (rows .entry)) first *ℤ rightAt (now (certificate .entry)) v) (self .v .sum) (r .v .sum)
+            × Adds mostAlong (entryAt (now (rows .entry)) second *ℤ rightAt (now (certificate .entry)) u) (self .u .sum) (r .u .sum)
+            × Adds mostAlong (entryAt (now (rows .entry)) first *ℤ rightAt (now (certificate .entry)) w) (self .now .sum) (r .now .sum)
+            × Adds mostAlong (entryAt (now (rows .entry)) second *ℤ rightAt (now (certificate .entry)) w) (self .next .sum) (r .next .sum) ⌝ }
+    {
+        let under_v = self.v;
+        let under_u = self.u;
+        let now = self.now;
+        let next = self.next;
+        RowTotals {
+            v: add_product(under_v, rows, first, certificate, v),
+            u: add_product(under_u, rows, second, certificate, u),
+            now: add_product(now, rows, first, certificate, w),
+            next: add_product(next, rows, second, certificate, w),
+        }
+    }
+}
+
+// The four totals along the row that starts at a place. U, V and W lie one after another from
+// `place` on.
+fn row_of(rows: &[u8], row: usize, n: usize, certificate: &[u8], place: usize) -> RowTotals
+    requires { ⌜ (row + 4 * n ≤ length (now rows)) × (place + 12 * n ≤ length (now certificate)) × (n < 16384) ⌝ }
+    ensures { λ r. ⌜ AlongOf (now (rows .entry)) row n (now (certificate .entry)) place n (r .v .sum) (r .u .sum) (r .now .sum) (r .next .sum) ⌝ }
+{
+    let next = row + 2 * n;
+    let v = place + 4 * n;
+    let w = place + 8 * n;
+    let mut sums = RowTotals {
+        v: Total::new(),
+        u: Total::new(),
+        now: Total::new(),
+        next: Total::new(),
+    };
+    for j in 0..n {
+        sums = sums.visit(
+            rows,
+            row + 2 * j,
+            next + 2 * j,
+            certificate,
+            place + 4 * j,
+            v + 4 * j,
+            w + 4 * j,
+        );
+    }
+    sums
+}
+
+// The left sides of an exclusion's two conditions at one row.
+pub struct LeftSides {
+    pub direction: i64,
+    pub step: i64,
+}
+
+// A·V + A'·U, and A·(W - V) + A'·W, at the row that starts at a place.
+pub fn along(rows: &[u8], row: usize, n: usize, certificate: &[u8], place: usize) -> LeftSides
+    requires { ⌜ (row + 4 * n ≤ length (now rows)) × (place + 12 * n ≤ length (now certificate)) × (n < 16384) ⌝ }
+    ensures { λ r. ⌜ (r .direction ≡ directionOf (now (rows .entry)) row n (now (certificate .entry)) place) × CanGrow (r .direction)
+        × (r .step ≡ stepOf (now (rows .entry)) row n (now (certificate .entry)) place) × CanGrow (r .step) ⌝ }
+{
+    let sums = row_of(rows, row, n, certificate, place);
+    let v = sums.v;
+    let u = sums.u;
+    let now = sums.now;
+    let next = sums.next;
+    LeftSides {
+        direction: v.sum + u.sum,
+        step: now.sum - v.sum + next.sum,
+    }
+}
+
+// r·x: a rank at a state.
+pub fn rank_at(rank: &[i64], state: &[i64]) -> Total
+    requires { ⌜ (length (now rank) ≤ 16) × (length (now rank) ≤ length (now state)) × Within 274877906944 (now rank) × Within 1048576 (now state) ⌝ }
+    ensures { λ r. ⌜ (r .sum ≡ dot (now (rank .entry)) (now (state .entry))) × (natAbs (r .sum) ≤ length (now (rank .entry)) * mostRank) ⌝ }
+{
+    let mut total = Total::new();
+    for j in 0..rank.len() {
+        total = total.plus(rank[j], state[j]);
+    }
+    total
+}
+
+// s·x: the entries from a place on at a state.
+pub fn entries_at(bytes: &[u8], place: usize, state: &[i64]) -> Total
+    requires { ⌜ (place + 2 * length (now state) ≤ length (now bytes)) × (length (now state) < 16384) × Within 1048576 (now state) ⌝ }
+    ensures { λ r. ⌜ SumOf (length (now (state .entry))) mostState (stateTerm (now (bytes .entry)) place (now (state .entry))) (r .sum) ⌝ }
+{
+    let mut total = Total::new();
+    for j in 0..state.len() {
+        total = total.plus(endian::i16_at(bytes, place + 2 * j), state[j]);
+    }
+    total
+}

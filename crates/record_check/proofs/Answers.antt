@@ -1,0 +1,120 @@
+-- How a caller uses the answer v of a check of the record that a reader r gets: `accepted` and `refused-so` say what number 0 and any other
+-- number mean for 01's order, `sound-record` gives what every test says of a sound record, `counts-small` bounds its counts, and
+-- `loop-any-room` and `certificate-any-room` carry an answer over to a reader that has a list.
+use mathlib.Core.Path.{_≡_, refl, sym, ap, _∙_}
+use Prim.Native.Nat.{ℕ, _≤_}
+use mathlib.Core.Bool.{Bool, true, _&&_}
+use mathlib.Core.List.{List, [], _∷_}
+use native.Mathlib.Omega.{arith}
+use lib.IntN.{ℤ, pos}
+use lib.ListN.{length}
+use lib.Seq.{drop-drop}
+use Rattle.endian.specs.Numbers.{littleAt}
+use Rattle.refusal.specs.Tests.{Told, done, refused, Test, _at_unless_, first, number as number-of}
+use Rattle.refusal.proofs.TestLaws.{either, passed, failed, zero-done, both-true}
+use Rattle.record.specs.Fields.{width, number, values, in-range}
+use Rattle.record.specs.Layouts.{Kind, loop, ranking, exclusion, lasso, other, kindOf, is-loop, is-lasso, is-certificate, has-rank, variable-count, row-count, counts}
+use Rattle.record.specs.Ranges.{variables, rows, within}
+use Rattle.record.specs.Readers.{Reader, stated-length, kind-number, kind, counts-read, fields, list-start, count-list, list, arguments-fit, sound, loop-reader, certificate-reader}
+use Rattle.record.proofs.ReadThenWrite.{Sound, sound-says}
+use Rattle.record_fields.proofs.Fits.{variables-most, rows-most, arguments-most}
+use Rattle.record_check.specs.declared.Checked.{Checked}
+use Rattle.record_check.specs.Checks.{checked, checks, ranked-reader}
+
+module _ (r : Reader) (v : Checked) (is : v ≡ checks r) where
+  number-told : (t : Told) → number-of t ≡ checked t r .number
+  unfolding number-of checked
+  number-told done = refl
+  number-told (refused k p) = refl
+
+  pub accepted : v .number ≡ 0 → first sound r ≡ done
+  unfolding checks sound
+  accepted zero = zero-done sound r refl (number-told (first sound r) ∙ ap (λ x. x .number) (sym is) ∙ zero)
+
+  pub refused-so : (v .number ≡ 0 → ⊥) → first sound r ≡ refused (v .number) (v .place)
+  unfolding checks checked
+  refused-so some = by-told (first sound r) refl
+    where
+      by-told : (t : Told) → first sound r ≡ t → first sound r ≡ refused (v .number) (v .place)
+      by-told done e = absurd (some (ap (λ x. x .number) (rw e at is)))
+      by-told (refused k p) e = e ∙ ap (λ (x : Checked). refused (x .number) (x .place)) (sym (rw e at is))
+
+  pub accepted-is : first sound r ≡ done → v ≡ checked done r
+  unfolding checks
+  accepted-is told = is ∙ ap (λ t. checked t r) told
+
+  pub sound-record : v .number ≡ 0 → Sound r
+  sound-record zero = sound-says r (accepted zero)
+
+pub counts-small : (r : Reader) → Sound r → (counts-read r .n ≤ 16) × (counts-read r .m ≤ 64) × (counts-read r .ms ≤ 64)
+unfolding counts-read kind counts is-loop is-lasso in-range values variable-count row-count width number littleAt count-list arguments-fit
+counts-small r s = by-kind (kind r) refl (s .arguments) (s .counts-fit)
+  where
+    by-kind : (k : Kind) → kind r ≡ k → arguments-fit r ≡ true → in-range (counts (kind r)) (count-list r) ≡ true
+        → (counts-read r .n ≤ 16) × (counts-read r .m ≤ 64) × (counts-read r .ms ≤ 64)
+    by-kind loop e a c =
+        let n = littleAt 2 (r .bytes) 6 in
+        let m = littleAt 2 (r .bytes) 8 in
+        let both = both-true (within variables (pos n)) (within rows (pos m) && true) (rw (e, drop-drop) at c) in
+        rw e (variables-most n (both .0), rows-most m (both-true (within rows (pos m)) true (both .1) .0), omega arith)
+    by-kind ranking e a c = let most = arguments-most (r .n) (r .m) (rw e at a) in rw e (most .0, most .1, omega arith)
+    by-kind exclusion e a c = let most = arguments-most (r .n) (r .m) (rw e at a) in rw e (most .0, most .1, omega arith)
+    by-kind lasso e a c =
+        let most = arguments-most (r .n) (r .m) (rw e at a) in
+        let ms = littleAt 2 (r .bytes) 6 in
+        rw e (most .0, most .1, rows-most ms (both-true (within rows (pos ms)) true (rw e at c) .0))
+    by-kind other e a c = let most = arguments-most (r .n) (r .m) (rw e at a) in rw e (most .0, most .1, omega arith)
+
+-- a check has no list, and its answer is the same for every list
+other-room : Reader → ℕ → Reader
+other-room r room = record { bytes = r .bytes; wants = r .wants; n = r .n; m = r .m; room = room }
+
+any-room : (r : Reader) (room : ℕ) → checks r ≡ checks (other-room r room)
+unfolding other-room checks checked first sound stated-length kind-number kind counts-read fields list-start count-list list arguments-fit
+any-room r room = by-told (first sound r)
+  where
+    by-told : (t : Told) → checked t r ≡ checked t (other-room r room)
+    by-told done = refl
+    by-told (refused k p) = refl
+
+pub loop-any-room : (bytes : List ℕ) (lent : List ℤ) → checks (loop-reader bytes []) ≡ checks (loop-reader bytes lent)
+unfolding other-room loop-reader
+loop-any-room bytes lent = any-room (loop-reader bytes []) (length lent)
+
+pub certificate-any-room : (bytes : List ℕ) (n m : ℕ) (lent : List ℤ) → checks (certificate-reader bytes n m []) ≡ checks (certificate-reader bytes n m lent)
+unfolding other-room certificate-reader
+certificate-any-room bytes n m lent = any-room (certificate-reader bytes n m []) (length lent)
+
+-- a check's answer goes by what is wanted of the record's own kind alone
+other-wants : Reader → (Kind → Bool) → Reader
+other-wants r wants = record { bytes = r .bytes; wants = wants; n = r .n; m = r .m; room = r .room }
+
+-- each test says the same of i and of j
+abbrev Alike : List (Test Reader) → Reader → Reader → Type 0
+Alike [] i j = Unit {0}
+Alike ((k at p unless t) ∷ ts) i j = (t i ≡ t j) × (p i ≡ p j) × Alike ts i j
+
+first-alike : (ts : List (Test Reader)) (i j : Reader) → Alike ts i j → first ts i ≡ first ts j
+unfolding first
+first-alike [] i j h = refl
+first-alike ((k at p unless t) ∷ ts) i j h =
+    either (t j) (λ e. passed k p t ts i (h .0 ∙ e) ∙ first-alike ts i j (h .2) ∙ sym (passed k p t ts j e))
+    (λ e. failed k p t ts i (h .0 ∙ e) ∙ ap (refused k) (h .1) ∙ sym (failed k p t ts j e))
+
+any-wants : (r : Reader) (wants : Kind → Bool) → (r .wants) (kind r) ≡ wants (kind r) → checks r ≡ checks (other-wants r wants)
+unfolding other-wants checks checked sound stated-length kind-number kind counts-read fields list-start count-list list arguments-fit
+any-wants r wants same = ap (λ t. checked t r) told ∙ by-told (first sound (other-wants r wants))
+  where
+    told : first sound r ≡ first sound (other-wants r wants)
+    told =
+        first-alike sound r (other-wants r wants)
+        (refl, refl, (refl, refl, (refl, refl, (refl, refl, (same, refl, (refl, refl, (refl, refl, (refl, refl, (refl, refl, (refl, refl, tt))))))))))
+
+    by-told : (t : Told) → checked t r ≡ checked t (other-wants r wants)
+    by-told done = refl
+    by-told (refused k p) = refl
+
+pub ranked-too : (bytes : List ℕ) (n m : ℕ) → is-certificate (kindOf (littleAt 2 bytes 4)) ≡ has-rank (kindOf (littleAt 2 bytes 4))
+    → checks (certificate-reader bytes n m []) ≡ checks (ranked-reader bytes n m)
+unfolding other-wants certificate-reader ranked-reader kind kind-number
+ranked-too bytes n m same = any-wants (certificate-reader bytes n m []) has-rank same

@@ -1,0 +1,92 @@
+-- `record_faults::rows_fault` meets its contract. Assumes nothing.
+use mathlib.Core.Path.{refl, sym, ap, _∙_}
+use Prim.Native.Nat.{_+_, _*_, _≤_, _<_}
+use lib.ListN.{length}
+use native.Mathlib.Nat.{mul-le-mul-right}
+use native.Mathlib.Omega.{arith}
+use borrow.Author.Needs.{needs}
+use Rattle.record.specs.Layouts.{row, rowsOf}
+use Rattle.record.proofs.Lengths.{widths-row}
+use Rattle.record_fields.specs.Runs.{fault}
+use Rattle.record_fields.proofs.Parts.{row-is}
+use Rattle.record_fields.proofs.Walks.{Walk, walk-start, walk-more, walk-here, walk-end}
+use Rattle.record_faults.proofs.rows_fault.Statement.{statement}
+use Rattle.record_faults.proofs.rows_fault.Tie as tie
+
+abbrev Inv-loop : tie.InvT-loop
+Inv-loop bytes place n count at₀ left₀ at left = Walk (rowsOf n) (4 * n + 4) bytes place count at left
+
+abbrev μ-loop : tie.MeasureT-loop
+μ-loop bytes place n count at₀ left₀ at left = left
+
+-- a row that is to come is there
+module _ (c : tie.At-loop Inv-loop μ-loop) where
+  wide : 0 < c .loop .left → c .loop .at + (4 * c .before .before .args .n + 4) ≤ length (c .before .before .args .bytes .now)
+  wide some = omega (arith, c .loop .inv .reach, mul-le-mul-right (4 * c .before .before .args .n + 4) some)
+
+loop-holds : tie.Need-loop-holds Inv-loop μ-loop
+loop-holds c = walk-start _ _ _ _ _
+
+mul-linear-fault : tie.Need-mul-linear-fault Inv-loop μ-loop
+mul-linear-fault c = omega (arith, wide (c .before) (c .loop-test .taken))
+
+linear-fault-requires : tie.Need-linear-fault-requires Inv-loop μ-loop
+linear-fault-requires c κs = omega (arith, wide (c .before) (c .loop-test .taken))
+
+mul-next : tie.Need-mul-next Inv-loop μ-loop
+mul-next c = omega (arith, wide (c .before .before) (c .before .loop-test .taken))
+
+add-next : tie.Need-add-next Inv-loop μ-loop
+add-next c = omega (arith, wide (c .before .before) (c .before .loop-test .taken))
+
+add-next-2 : tie.Need-add-next-2 Inv-loop μ-loop
+add-next-2 c = omega (arith, wide (c .before .before) (c .before .loop-test .taken))
+
+returns : tie.Need-returns Inv-loop μ-loop
+unfolding rowsOf
+returns c =
+    let a = c .before .before .before .before .before .args in
+    let w = c .before .before .before .loop in
+    let told = c .before .linear-fault .ensures ∙ ap (λ fs. fault fs (a .bytes .now) (w .at)) (sym (row-is (a .n))) in
+    walk-here (rowsOf (a .n)) (4 * a .n + 4) (a .bytes .now) (a .place) (a .count) (row (a .n)) (λ k. refl) (widths-row (a .n)) (w .at) (w .left) (w .inv)
+    (c .before .before .loop-test .taken) (c .before .linear-fault .result) told (c .if1 .taken)
+
+sub-left : tie.Need-sub-left Inv-loop μ-loop
+sub-left c = search needs
+
+loop-less : tie.Need-loop-less Inv-loop μ-loop
+loop-less c = search needs
+
+loop-again : tie.Need-loop-again Inv-loop μ-loop
+unfolding rowsOf
+loop-again c =
+    let a = c .before .before .before .before .before .args in
+    let w = c .before .before .before .loop in
+    let told = c .before .linear-fault .ensures ∙ ap (λ fs. fault fs (a .bytes .now) (w .at)) (sym (row-is (a .n))) in
+    walk-more (rowsOf (a .n)) (4 * a .n + 4) (a .bytes .now) (a .place) (a .count) (row (a .n)) (λ k. refl) (widths-row (a .n)) (w .at) (w .left) (w .inv)
+    (c .before .before .loop-test .taken) (c .before .linear-fault .result) told (c .if1 .left)
+
+returns-2 : tie.Need-returns-2 Inv-loop μ-loop
+unfolding rowsOf
+returns-2 c =
+    let a = c .before .before .before .args in
+    let w = c .before .loop in
+    walk-end (rowsOf (a .n)) (4 * a .n + 4) (a .bytes .now) (a .place) (a .count) (w .at) (w .left) refl (w .inv) (omega arith)
+
+pub rows-fault-spec : {M : Type 1} → statement M
+rows-fault-spec =
+    tie.close
+    (tie.spec
+    Inv-loop
+    μ-loop
+    loop-holds
+    mul-linear-fault
+    linear-fault-requires
+    mul-next
+    add-next
+    add-next-2
+    returns
+    sub-left
+    loop-less
+    loop-again
+    returns-2)
