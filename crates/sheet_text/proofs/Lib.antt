@@ -1,6 +1,4 @@
 pub mod OneAnswer
-pub mod PartingLaws
-pub mod PartingReads
 pub mod SampleText
 pub mod Sizes
 pub mod TextLaws

@@ -10,7 +10,7 @@ use Rattle.record.specs.Samples as Records
 use Rattle.decimal.specs.Decimals.{decimal}
 use Rattle.verdict.specs.Samples.{P, ends-without-rank, with-stem, S1, S7, S8, S10, S11, second-of-P, loop-bytes, ranking-bytes, exclusion-bytes}
 use Rattle.sheet_lines.specs.Words.{bytes, line}
-use Rattle.sheet_text.specs.Parting.{first-record, after-first, records}
+use Rattle.record_parting.specs.Parting.{first-record, after-first, records}
 use Rattle.sheet_text.specs.Sheets.{variables-in, rows-in, certificate-line, sheet-text}
 use Rattle.sheet_text.specs.Computing.{computing}
 

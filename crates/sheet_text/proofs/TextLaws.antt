@@ -17,10 +17,10 @@ use Rattle.refusal.proofs.TestLaws.{failed, passes-done}
 use Rattle.verdict.specs.Pairs.{loop-record}
 use Rattle.judge.specs.Told.{LoopSound}
 use Rattle.sheet_lines.specs.Words.{bytes, line}
-use Rattle.sheet_text.specs.Parting.{taken, first-record, after-first, records}
+use Rattle.record_parting.specs.Parting.{taken, first-record, after-first, records}
 use Rattle.sheet_text.specs.Sheets.{variables-in, rows-in, certificate-line, lines, judged, sheet-text, worst, enough-room, answer, filled, sheet-of, sheet-answers, room-after}
 use Rattle.sheet_lines.proofs.LineLaws.{loop-word, line-loop}
-use Rattle.sheet_text.proofs.PartingLaws.{records-none, records-more}
+use Rattle.record_parting.proofs.PartingLaws.{records-none, records-more}
 
 module _ (input : List ℕ) where
   -- the two texts

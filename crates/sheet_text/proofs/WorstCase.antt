@@ -33,11 +33,11 @@ use Rattle.verdict.proofs.StageLaws.{by-told, stage-done, stage-refused}
 use Rattle.verdict.proofs.SumsFit.{Ranking-sums-fit, rank-length}
 use Rattle.verdict.proofs.SumsFitInBytes.{loop-small, ranking-sums-fit, lasso-sums-fit-in}
 use Rattle.sheet_lines.specs.Words.{bytes, line, run}
-use Rattle.sheet_text.specs.Parting.{taken, first-record, after-first, records}
+use Rattle.record_parting.specs.Parting.{taken, first-record, after-first, records}
 use Rattle.sheet_lines.specs.VerdictLines.{outcome-words, verdict-line}
 use Rattle.sheet_text.specs.Sheets.{lent, variables-in, rows-in, certificate-line, lines, judged, sheet-text, worst}
 use Rattle.sheet_lines.proofs.LineLaws.{line-loop, entries, nothing-line, ranking-line, lasso-line, whole-exclusion-line, fractions-exclusion-line, line-refused, length-pair, length-rank, length-count}
-use Rattle.sheet_text.proofs.PartingLaws.{taken-all-or-six, first-length, rest-length, nothing-left, no-bytes, fewer}
+use Rattle.record_parting.proofs.PartingLaws.{taken-all-or-six, first-length, rest-length, nothing-left, no-bytes, fewer}
 use Rattle.sheet_text.proofs.TextLaws.{text-judged, text-too-long, lines-none, lines-more}
 use Rattle.sheet_text.proofs.Sizes.{Small-told, first-small, sound-told}
 

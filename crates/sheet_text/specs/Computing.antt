@@ -3,7 +3,7 @@ use Rattle.decimal.specs.Decimals as Decimals
 use Rattle.verdict.specs.Computing as Verdicts
 use Rattle.sheet_lines.specs.VerdictLines as VerdictLines
 use Rattle.sheet_lines.specs.Words as Words
-use Rattle.sheet_text.specs.Parting as Parting
+use Rattle.record_parting.specs.Parting as Parting
 use Rattle.sheet_text.specs.Sheets as Sheets
 
 unfoldable pub computing : Unit {0}

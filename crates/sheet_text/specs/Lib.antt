@@ -1,3 +1,2 @@
-pub mod Parting
 pub mod Sheets
 pub mod Computing

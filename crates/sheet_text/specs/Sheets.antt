@@ -14,7 +14,7 @@ use Rattle.verdict.specs.Judging.{judges, rank-after, judge-of}
 use Rattle.verdict.specs.Pairs.{loop-record}
 use Rattle.sheet_lines.specs.VerdictLines.{verdict-line}
 use Rattle.sheet_lines.specs.Words.{bytes, line}
-use Rattle.sheet_text.specs.Parting.{first-record, after-first, records}
+use Rattle.record_parting.specs.Parting.{first-record, after-first, records}
 
 -- ---- a certificate's line
 

@@ -9,25 +9,8 @@ ghost use Rattle.record.specs.Readers.{sound};
 ghost use Rattle.refusal.specs.Tests.{first};
 ghost use Rattle.verdict.specs.Pairs.{loop-record};
 ghost use Rattle.judge.specs.Told.{LoopSound};
-ghost use Rattle.sheet_text.specs.Parting.{taken, records};
+ghost use Rattle.record_parting.specs.Parting.{records};
 ghost use Rattle.sheet_text.specs.Sheets.{certificate-line, lines, judged, sheet-text, worst, sheet-answers, room-after};
-
-// How many bytes of the input the first record takes.
-fn first_end(input: &[u8]) -> usize
-    ensures { λ r. ⌜ r ≡ taken (now (input .entry)) ⌝ }
-{
-    if input.len() < 4 {
-        return input.len();
-    }
-    let end = 4 + endian::u32_at(input, 0);
-    if end < 6 {
-        return input.len();
-    }
-    if input.len() < end {
-        return input.len();
-    }
-    end
-}
 
 // Judges a certificate for a sound loop of n variables and m rows, and writes its line.
 fn put_certificate(
@@ -66,7 +49,7 @@ fn put_certificates(
     let mut count = 1;
     while from < certificates.len() {
         let rest = &certificates[from..];
-        let end = first_end(rest);
+        let end = record_parting::first_end(rest);
         at = put_certificate(text, at, rows, n, m, count, &rest[..end]);
         from += end;
         count += 1;
@@ -96,7 +79,7 @@ fn put_sheet(text: &mut [u8], input: &[u8]) -> usize
     if input.len() > 65536 {
         return sheet_lines::put_bytes(text, 0, b"input too long\n");
     }
-    let end = first_end(input);
+    let end = record_parting::first_end(input);
     put_judged(text, &input[..end], &input[end..])
 }
 

@@ -8,9 +8,9 @@ use lib.ListN.{length, take, drop, length-drop, drop-of-length-le}
 use lib.Seq.{take-all, length-take-le}
 use borrow.Author.Needs.{needs}
 use Rattle.decimal.proofs.RoomLaws.{So-far, so-far-none, so-far-room, so-far-more, so-far-all}
-use Rattle.sheet_text.specs.Parting.{taken, records}
+use Rattle.record_parting.specs.Parting.{taken, records}
 use Rattle.sheet_text.specs.Sheets.{certificate-line, lines}
-use Rattle.sheet_text.proofs.PartingLaws.{taken-within, taken-some}
+use Rattle.record_parting.proofs.PartingLaws.{taken-within, taken-some}
 use Rattle.sheet_text.proofs.TextLaws.{lines-none, lines-turn}
 use Rattle.sheet_text.proofs.put_certificates.Statement.{statement}
 use Rattle.sheet_text.proofs.put_certificates.Tie as tie

@@ -10,7 +10,7 @@ use Rattle.decimal.proofs.RoomLaws.{puts-on}
 use Rattle.record.specs.Readers.{sound}
 use Rattle.refusal.specs.Tests.{first}
 use Rattle.verdict.specs.Pairs.{loop-record}
-use Rattle.sheet_text.specs.Parting.{records}
+use Rattle.record_parting.specs.Parting.{records}
 use Rattle.sheet_text.specs.Sheets.{lines, judged}
 use Rattle.sheet_lines.specs.Words.{bytes, line}
 use Rattle.judge.specs.Told.{LoopSound}

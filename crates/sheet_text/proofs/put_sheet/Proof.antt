@@ -10,7 +10,7 @@ use Rattle.record.specs.Readers.{sound}
 use Rattle.refusal.specs.Tests.{first}
 use Rattle.verdict.specs.Pairs.{loop-record}
 use Rattle.sheet_text.specs.Sheets.{judged, sheet-text}
-use Rattle.sheet_text.proofs.PartingLaws.{taken-within}
+use Rattle.record_parting.proofs.PartingLaws.{taken-within}
 use Rattle.sheet_text.proofs.TextLaws.{text-too-long-line, text-parted}
 use Rattle.sheet_text.proofs.put_sheet.Statement.{statement}
 use Rattle.sheet_text.proofs.put_sheet.Tie as tie

@@ -8,7 +8,7 @@ use lib.ListN.{length, length-take, length-drop}
 use lib.Seq.{drop-length}
 use borrow.Author.Tests.{le-leb, lt-leb, leb-true}
 use Rattle.refusal.proofs.TestLaws.{either, both-true, true-both}
-use Rattle.sheet_text.specs.Parting.{stated, whole-first, taken, first-record, after-first, up-to, records}
+use Rattle.record_parting.specs.Parting.{stated, whole-first, taken, first-record, after-first, up-to, records}
 
 -- ---- how many bytes the first record takes, test by test
 

@@ -15,8 +15,8 @@ use Rattle.endian.proofs.Laws.{littleAt-first}
 use Rattle.record.specs.Readers.{Reader, stated-length, sound}
 use Rattle.refusal.specs.Tests.{done, first}
 use Rattle.refusal.proofs.TestLaws.{Passes, passes-done, done-passes}
-use Rattle.sheet_text.specs.Parting.{stated, whole-first, taken, first-record}
-use Rattle.sheet_text.proofs.PartingLaws.{whole-passes, passes-whole, taken-whole, not-whole}
+use Rattle.record_parting.specs.Parting.{stated, whole-first, taken, first-record}
+use Rattle.record_parting.proofs.PartingLaws.{whole-passes, passes-whole, taken-whole, not-whole}
 
 -- L as parting reads it is L as a reader reads it
 pub same-length-stated : (r : Reader) → stated (r .bytes) ≡ stated-length r

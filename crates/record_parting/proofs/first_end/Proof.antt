@@ -1,12 +1,12 @@
--- `sheet_text::first_end` meets its contract. Assumes nothing.
+-- `record_parting::first_end` meets its contract. Assumes nothing.
 use mathlib.Core.Path.{_≡_, sym, ap, _∙_}
 use Prim.Native.Nat.{ℕ, _+_}
 use native.Mathlib.Omega.{arith}
 use borrow.Author.Needs.{needs}
-use Rattle.sheet_text.specs.Parting.{stated}
-use Rattle.sheet_text.proofs.PartingLaws.{taken-short, taken-small, taken-early, taken-whole}
-use Rattle.sheet_text.proofs.first_end.Statement.{statement}
-use Rattle.sheet_text.proofs.first_end.Tie as tie
+use Rattle.record_parting.specs.Parting.{stated}
+use Rattle.record_parting.proofs.PartingLaws.{taken-short, taken-small, taken-early, taken-whole}
+use Rattle.record_parting.proofs.first_end.Statement.{statement}
+use Rattle.record_parting.proofs.first_end.Tie as tie
 
 -- what was read is L
 read : (c : tie.After-u32-at) → c .u32-at .result ≡ stated (c .before .before .before .args .input .now)

@@ -1,0 +1,2 @@
+pub mod PartingLaws
+pub mod PartingReads

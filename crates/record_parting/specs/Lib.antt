@@ -1,0 +1,2 @@
+-- how bytes end to end are cut into records
+pub mod Parting
