@@ -198,5 +198,5 @@ pub extern "C" fn cushiedoo_sheet(input: &[u8], text: &mut [u8]) -> FlatWriting
     ensures { λ r. ⌜ r ≡ flat-writing (sheet-answers (now (input .entry)) (now (text .entry))) ⌝ }
     ensures { λ _. ⌜ now (text .exit) ≡ text-after (now (input .entry)) (now (text .entry)) ⌝ }
 {
-    flat_writing(sheet_text::sheet(input, text))
+    flat_writing(sheet_write::sheet(input, text))
 }

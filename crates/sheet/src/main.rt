@@ -13,7 +13,7 @@ fn input_room() -> [u8; 65537]
     [0; 65537]
 }
 
-// Room for the longest text, `sheet_text::room_needed(65537)`.
+// Room for the longest text, `sheet_write::room_needed(65537)`.
 fn text_room() -> [u8; 3014956]
     ensures { λ r. ⌜ 3014956 ≡ length r ⌝ }
 {
@@ -26,7 +26,7 @@ fn put_text(input: &[u8], text: &mut [u8]) -> usize
     ensures { λ r. ⌜ (r ≡ length (sheet-text (now (input .entry)))) × (r ≤ length (now (text .exit))) ⌝ }
     ensures { λ r. ⌜ now (text .exit) ≡ sheet-text (now (input .entry)) ++ drop r (now (text .entry)) ⌝ }
 {
-    let answer = sheet_text::sheet(input, text);
+    let answer = sheet_write::sheet(input, text);
     answer.written
 }
 

@@ -1,6 +1,6 @@
-pub mod OneAnswer
+pub mod LineSizes
 pub mod SampleText
-pub mod Sizes
+pub mod ToldSizes
 pub mod TextLaws
 pub mod WorstCase
 pub mod WrongRooms

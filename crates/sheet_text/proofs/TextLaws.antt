@@ -11,11 +11,10 @@ use lib.ListN.{length, take, drop, length-append}
 use lib.Seq.{drop-drop}
 use borrow.Author.Tests.{le-leb, lt-leb}
 use Rattle.decimal.specs.Decimals.{decimal}
-use Rattle.record.specs.Readers.{sound}
+use Rattle.record.specs.Readers.{counts-read, sound}
 use Rattle.refusal.specs.Tests.{Told, done, refused, first}
 use Rattle.refusal.proofs.TestLaws.{failed, passes-done}
 use Rattle.verdict.specs.Pairs.{loop-record}
-use Rattle.judge.specs.Told.{LoopSound}
 use Rattle.sheet_lines.specs.Words.{bytes, line}
 use Rattle.record_parting.specs.Parting.{taken, first-record, after-first, records}
 use Rattle.sheet_text.specs.Sheets.{variables-in, rows-in, certificate-line, lines, judged, sheet-text, worst, enough-room, answer, filled, sheet-of, sheet-answers, room-after}
@@ -64,10 +63,10 @@ module _ (loop rest : List ℕ) where
   judged-first done = rw (length-append, line-loop) (omega arith)
   judged-first (refused number place) = rw line-loop (omega arith)
 
-  pub judged-sound : (n m : ℕ) → LoopSound loop n m
+  pub judged-sound : (n m : ℕ) → first sound (loop-record loop) ≡ done → n ≡ counts-read (loop-record loop) .n → m ≡ counts-read (loop-record loop) .m
       → judged (first sound (loop-record loop)) loop rest ≡ loop-word ++ (line (decimal n ∷ decimal m ∷ []) ++ lines loop 1 (records rest))
   unfolding judged variables-in rows-in
-  judged-sound n m h = rw (h .told, h .n-is, h .m-is, line-loop)
+  judged-sound n m told n-is m-is = rw (told, n-is, m-is, line-loop)
 
   pub judged-refused : (number place : ℕ) → first sound (loop-record loop) ≡ refused number place
       → judged (first sound (loop-record loop)) loop rest ≡ loop-word ++ line (bytes "refused" ∷ decimal number ∷ decimal place ∷ [])

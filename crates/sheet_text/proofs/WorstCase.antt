@@ -6,12 +6,11 @@ use mathlib.Core.Bool.{true, _||_, false≢true}
 use mathlib.Core.List.{List, [], _∷_, _++_}
 use native.Mathlib.Decide.{decLt}
 use native.Mathlib.Omega.{arith}
-use lib.IntN.{ℤ, natAbs}
+use lib.IntN.{ℤ}
 use lib.ListN.{length, take, drop, length-append, length-drop}
 use lib.Seq.{take-at}
-use Rattle.whole.specs.Sums.{Within}
-use Rattle.decimal.specs.Decimals.{decimal, signed-decimal}
-use Rattle.decimal.proofs.DecimalLaws.{decimal-length, signed-length}
+use Rattle.decimal.specs.Decimals.{decimal}
+use Rattle.decimal.proofs.DecimalLaws.{decimal-length}
 use Rattle.record.specs.Layouts.{Kind, loop, ranking, exclusion, lasso, other, is-loop, is-certificate}
 use Rattle.record.specs.Readers as R
 use Rattle.record.specs.Readers.{Reader, sound}
@@ -23,74 +22,20 @@ use Rattle.verdict.specs.Contents.{loop-in}
 use Rattle.verdict.specs.Judging.{Judging, rank-room, judging, judges, rank-after, judge-of}
 use Rattle.verdict.specs.Pairs.{loop-record, certificate-record, kind-of, variables-of, folded, conditions}
 use Rattle.verdict.specs.Stages.{Said, agreed, refusal, Stage, _says_, said, verdict-of}
-use Rattle.verdict.specs.declared.Grade.the-variants.{Whole, Fractions}
-use Rattle.verdict.specs.declared.Outcome.{Outcome}
-use Rattle.verdict.specs.declared.Outcome.the-variants.{Nothing, Ranking, Exclusion, Lasso}
-use Rattle.verdict.specs.declared.Verdict.{Verdict}
+use Rattle.verdict.specs.declared.Outcome.the-variants.{Ranking}
 use Rattle.verdict.proofs.Accepted.{accepts-agrees, ranking-answers, lasso-answers, exclusion-answers}
 use Rattle.verdict.proofs.Demands.{same-counts}
 use Rattle.verdict.proofs.StageLaws.{by-told, stage-done, stage-refused}
 use Rattle.verdict.proofs.SumsFit.{Ranking-sums-fit, rank-length}
 use Rattle.verdict.proofs.SumsFitInBytes.{loop-small, ranking-sums-fit, lasso-sums-fit-in}
-use Rattle.sheet_lines.specs.Words.{bytes, line, run}
+use Rattle.sheet_lines.specs.Words.{bytes, line}
 use Rattle.record_parting.specs.Parting.{taken, first-record, after-first, records}
-use Rattle.sheet_lines.specs.VerdictLines.{outcome-words, verdict-line}
 use Rattle.sheet_text.specs.Sheets.{lent, variables-in, rows-in, certificate-line, lines, judged, sheet-text, worst}
-use Rattle.sheet_lines.proofs.LineLaws.{line-loop, entries, nothing-line, ranking-line, lasso-line, whole-exclusion-line, fractions-exclusion-line, line-refused, length-pair, length-rank, length-count}
+use Rattle.sheet_lines.proofs.LineLaws.{line-loop, length-pair}
 use Rattle.record_parting.proofs.PartingLaws.{taken-all-or-six, first-length, rest-length, nothing-left, no-bytes, fewer}
 use Rattle.sheet_text.proofs.TextLaws.{text-judged, text-too-long, lines-none, lines-more}
-use Rattle.sheet_text.proofs.Sizes.{Small-told, first-small, sound-told}
-
--- ---- the line of a verdict whose numbers are small
-
-pub record Small-refusal (number place : ℕ) : Type 0 where
-  pub one-digit : number < 10
-  pub near : place ≤ 65_536
-
--- at most 16 entries of at most 12 digits, a start and a fall of at most 13
-pub record Small-rank (r : List ℤ) (start fall : ℤ) : Type 0 where
-  pub sixteen : length r ≤ 16
-  pub rank-within : Within 117_000_000_000 r
-  pub start-within : natAbs start ≤ 3_900_000_000_000
-  pub fall-within : natAbs fall ≤ 3_900_000_000_000
-
-abbrev pub Small-verdict : Outcome → ℕ → ℕ → List ℤ → Type 0
-Small-verdict Nothing number place r = Small-refusal number place
-Small-verdict (Ranking start fall) number place r = Small-rank r start fall
-Small-verdict (Exclusion grade) number place r = Unit {0}
-Small-verdict (Lasso start fall) number place r = Small-rank r start fall
-
-entries-size : (r : List ℤ) → Within 117_000_000_000 r → length (entries r) ≤ 14 * length r
-unfolding run bytes
-entries-size [] small = omega arith
-entries-size (z ∷ r) small = simp length-append (omega (arith, signed-length 11 z (omega (arith, small 0)), entries-size r (λ i. small (suc i))))
-
-rank-size : (r : List ℤ) (start fall : ℤ) → Small-rank r start fall → length (entries r) + (5 + (length (signed-decimal start) + 1) + (5 + (length (signed-decimal fall) + 1))) ≤ 264
-rank-size r start fall small =
-    omega (
-      arith,
-      small .sixteen,
-      entries-size r (small .rank-within),
-      signed-length 12 start (omega (arith, small .start-within)),
-      signed-length 12 fall (omega (arith, small .fall-within)),
-    )
-
-refusal-size : (number place : ℕ) → Small-refusal number place → length (line (bytes "refused" ∷ decimal number ∷ decimal place ∷ [])) ≤ 16
-refusal-size number place small =
-    rw (line-refused (decimal number) (decimal place))
-    (omega (arith, length-pair (decimal number) (decimal place), decimal-length 0 number (omega (arith, small .one-digit)), decimal-length 4 place (omega (arith, small .near))))
-
-outcome-size : (o : Outcome) (number place : ℕ) (r : List ℤ) → Small-verdict o number place r → length (line (outcome-words o number place r)) ≤ 270
-outcome-size Nothing number place r small = rw (nothing-line Nothing number place r refl) (omega (arith, refusal-size number place small))
-outcome-size (Ranking start fall) number place r small = rw (ranking-line (Ranking start fall) number place r start fall refl) (omega (arith, length-rank r start fall, rank-size r start fall small))
-outcome-size (Exclusion Whole) number place r small = rw (whole-exclusion-line (Exclusion Whole) number place r Whole refl refl) (omega arith)
-outcome-size (Exclusion Fractions) number place r small = rw (fractions-exclusion-line (Exclusion Fractions) number place r Fractions refl refl) (omega arith)
-outcome-size (Lasso start fall) number place r small = rw (lasso-line (Lasso start fall) number place r start fall refl) (omega (arith, length-rank r start fall, rank-size r start fall small))
-
-verdict-size : (count : ℕ) (verdict : Verdict) (r : List ℤ) → count < 10 ^ 5 → Small-verdict (verdict .outcome) (verdict .number) (verdict .place) r
-    → length (verdict-line count verdict r) ≤ 276
-verdict-size count verdict r few small =
-    omega (arith, length-count count verdict r, decimal-length 4 count few, outcome-size (verdict .outcome) (verdict .number) (verdict .place) r small)
+use Rattle.sheet_text.proofs.ToldSizes.{Small-told, first-small, sound-told}
+use Rattle.sheet_text.proofs.LineSizes.{Small-refusal, Small-rank, Small-verdict, refusal-size, verdict-size}
 
 -- ---- what is said is small
 

@@ -1,4 +1,4 @@
--- `sheet_text::put_judged` meets its contract. Assumes nothing.
+-- `sheet_write::put_judged` meets its contract. Assumes nothing.
 use mathlib.Core.Path.{_≡_, ap}
 use Prim.Native.Nat.{ℕ}
 use mathlib.Core.List.{List, [], _∷_, _++_}
@@ -11,14 +11,14 @@ use Rattle.record.specs.Readers.{sound}
 use Rattle.refusal.specs.Tests.{first}
 use Rattle.verdict.specs.Pairs.{loop-record}
 use Rattle.record_parting.specs.Parting.{records}
 use Rattle.sheet_text.specs.Sheets.{lines, judged}
 use Rattle.sheet_lines.specs.Words.{bytes, line}
 use Rattle.judge.specs.Told.{LoopSound}
 use Rattle.judge.proofs.Entered.{loop-refused, loop-sound}
 use Rattle.sheet_lines.proofs.LineLaws.{loop-word}
 use Rattle.sheet_text.proofs.TextLaws.{judged-first, judged-sound, judged-refused}
-use Rattle.sheet_text.proofs.put_judged.Statement.{statement}
-use Rattle.sheet_text.proofs.put_judged.Tie as tie
+use Rattle.sheet_write.proofs.put_judged.Statement.{statement}
+use Rattle.sheet_write.proofs.put_judged.Tie as tie
 
 -- the text that is to be written
 abbrev text-of : tie.Start → List ℕ
@@ -54,7 +54,7 @@ sound-is c =
     loop-sound (start-of w .args .rows .now) (found-at w .check-loop .result) (found-at w .check-loop .ensures) (c .if1 .left)
 
 lines-are : (c : tie.Else1) → let w = c .before .before .before .before in text-of (start-of w) ≡ loop-word ++ (line (words-of w) ++ lines-of w)
-lines-are c = let a = start-of (c .before .before .before .before) .args in judged-sound (a .rows .now) (a .certificates .now) _ _ (sound-is c)
+lines-are c = let a = start-of (c .before .before .before .before) .args in let s = sound-is c in judged-sound (a .rows .now) (a .certificates .now) _ _ (s .told) (s .n-is) (s .m-is)
 
 check-loop-requires : tie.Need-check-loop-requires
 check-loop-requires c κs = search needs

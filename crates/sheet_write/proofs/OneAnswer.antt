@@ -3,10 +3,10 @@
 use mathlib.Core.Path.{refl, sym, _∙_}
 use denote.Ref.{now}
 use Rattle.refusal.specs.Single.{Single}
-use Rattle.sheet_text.proofs.sheet.Kinds as sheet-kinds
-use Rattle.sheet_text.proofs.sheet.Reads as sheet-reads
-use Rattle.sheet_text.proofs.room_needed.Kinds as room-kinds
-use Rattle.sheet_text.proofs.room_needed.Reads as room-reads
+use Rattle.sheet_write.proofs.sheet.Kinds as sheet-kinds
+use Rattle.sheet_write.proofs.sheet.Reads as sheet-reads
+use Rattle.sheet_write.proofs.room_needed.Kinds as room-kinds
+use Rattle.sheet_write.proofs.room_needed.Reads as room-reads
 
 -- lent: the room for the text
 pub one-answer : Single 2 sheet-kinds.ps sheet-kinds.r sheet-reads.Learnt (λ κs s. now (s .1 .0))

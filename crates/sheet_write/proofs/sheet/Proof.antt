@@ -1,4 +1,4 @@
--- `sheet_text::sheet` meets its contract: the room is enough for the longest text, so it is enough for this one. Assumes nothing.
+-- `sheet_write::sheet` meets its contract: the room is enough for the longest text, so it is enough for this one. Assumes nothing.
 use mathlib.Core.Path.{sym, ap, _∙_}
 use Prim.Native.Nat.{ℕ}
 use native.Mathlib.Nat.{zero-add}
@@ -6,11 +6,11 @@ use native.Mathlib.Omega.{arith}
 use lib.ListN.{length}
 use borrow.Author.Needs.{needs}
 use Rattle.decimal.proofs.RoomLaws.{written-front}
 use Rattle.sheet_text.specs.Sheets.{sheet-text}
 use Rattle.sheet_text.proofs.TextLaws.{no-room, enough}
 use Rattle.sheet_text.proofs.WorstCase.{never-longer}
-use Rattle.sheet_text.proofs.sheet.Statement.{statement}
-use Rattle.sheet_text.proofs.sheet.Tie as tie
+use Rattle.sheet_write.proofs.sheet.Statement.{statement}
+use Rattle.sheet_write.proofs.sheet.Tie as tie
 
 room-needed-requires : tie.Need-room-needed-requires
 room-needed-requires c κs = search needs

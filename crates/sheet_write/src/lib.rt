@@ -1,0 +1,116 @@
+// The text of a sheet, put into a room: the input is parted into records, the loop is checked once, each certificate is judged, and its
+// line is put into the caller's room, as the definitions of `sheet_text` say.
+use record::Writing;
+ghost use Prim.Native.Nat.{_+_, _≤_};
+ghost use mathlib.Core.Path.{_≡_};
+ghost use lib.ListN.{length};
+ghost use Rattle.decimal.specs.Rooms.{Puts};
+ghost use Rattle.record.specs.Readers.{sound};
+ghost use Rattle.refusal.specs.Tests.{first};
+ghost use Rattle.verdict.specs.Pairs.{loop-record};
+ghost use Rattle.judge.specs.Told.{LoopSound};
+ghost use Rattle.record_parting.specs.Parting.{records};
+ghost use Rattle.sheet_text.specs.Sheets.{certificate-line, lines, judged, sheet-text, worst, sheet-answers, room-after};
+
+// Judges a certificate for a sound loop of n variables and m rows, and writes its line.
+fn put_certificate(
+    text: &mut [u8],
+    place: usize,
+    rows: &[u8],
+    n: usize,
+    m: usize,
+    count: usize,
+    certificate: &[u8],
+) -> usize
+    requires { ⌜ LoopSound (now rows) n m ⌝ }
+    requires { ⌜ place + length (certificate-line (now rows) count (now certificate)) ≤ length (now text) ⌝ }
+    ensures { λ r. ⌜ Puts (now (text .entry)) place (certificate-line (now (rows .entry)) count (now (certificate .entry))) r (now (text .exit)) ⌝ }
+{
+    let mut rank = [0i64; 16];
+    let v = judge::judge_sound(rows, n, m, certificate, &mut rank);
+    sheet_lines::put_line(text, place, count, v, &rank[..n])
+}
+
+// Writes a line for each certificate of a sound loop, with its count from 1.
+fn put_certificates(
+    text: &mut [u8],
+    place: usize,
+    rows: &[u8],
+    n: usize,
+    m: usize,
+    certificates: &[u8],
+) -> usize
+    requires { ⌜ LoopSound (now rows) n m ⌝ }
+    requires { ⌜ place + length (lines (now rows) 1 (records (now certificates))) ≤ length (now text) ⌝ }
+    ensures { λ r. ⌜ Puts (now (text .entry)) place (lines (now (rows .entry)) 1 (records (now (certificates .entry)))) r (now (text .exit)) ⌝ }
+{
+    let mut at = place;
+    let mut from = 0;
+    let mut count = 1;
+    while from < certificates.len() {
+        let rest = &certificates[from..];
+        let end = record_parting::first_end(rest);
+        at = put_certificate(text, at, rows, n, m, count, &rest[..end]);
+        from += end;
+        count += 1;
+    }
+    at
+}
+
+// Writes the text of a loop record and the certificates after it.
+fn put_judged(text: &mut [u8], rows: &[u8], certificates: &[u8]) -> usize
+    requires { ⌜ length (judged (first sound (loop-record (now rows))) (now rows) (now certificates)) ≤ length (now text) ⌝ }
+    ensures { λ r. ⌜ Puts (now (text .entry)) 0 (judged (first sound (loop-record (now (rows .entry)))) (now (rows .entry)) (now (certificates .entry))) r (now (text .exit)) ⌝ }
+{
+    let found = record_check::check_loop(rows);
+    let at = sheet_lines::put_bytes(text, 0, b"loop ");
+    if found.number != 0 {
+        return sheet_lines::put_refusal(text, at, found.number, found.place);
+    }
+    let at = sheet_lines::put_pair(text, at, found.n, found.m);
+    put_certificates(text, at, rows, found.n, found.m, certificates)
+}
+
+// Writes the text of an input.
+fn put_sheet(text: &mut [u8], input: &[u8]) -> usize
+    requires { ⌜ length (sheet-text (now input)) ≤ length (now text) ⌝ }
+    ensures { λ r. ⌜ Puts (now (text .entry)) 0 (sheet-text (now (input .entry))) r (now (text .exit)) ⌝ }
+{
+    if input.len() > 65536 {
+        return sheet_lines::put_bytes(text, 0, b"input too long\n");
+    }
+    let end = record_parting::first_end(input);
+    put_judged(text, &input[..end], &input[end..])
+}
+
+// The room that is enough for the text of any input of a size.
+pub fn room_needed(size: usize) -> usize
+    ensures { λ r. ⌜ r ≡ worst size ⌝ }
+{
+    if size < 65536 {
+        46 * size + 300
+    } else {
+        46 * 65536 + 300
+    }
+}
+
+// Writes the text of a sheet. Room is tested first, against the worst case of the input's size.
+pub fn sheet(input: &[u8], text: &mut [u8]) -> Writing
+    ensures { λ r. ⌜ r ≡ sheet-answers (now (input .entry)) (now (text .entry)) ⌝ }
+    ensures { λ _. ⌜ now (text .exit) ≡ room-after (now (input .entry)) (now (text .entry)) ⌝ }
+{
+    let needed = room_needed(input.len());
+    if text.len() < needed {
+        return Writing {
+            number: 7,
+            place: needed,
+            written: 0,
+        };
+    }
+    let written = put_sheet(text, input);
+    Writing {
+        number: 0,
+        place: 0,
+        written: written,
+    }
+}
