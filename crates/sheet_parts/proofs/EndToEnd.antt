@@ -4,7 +4,7 @@ use mathlib.Core.Path.{_≡_, refl, sym, ap, _∙_}
 use Prim.Native.Nat.{ℕ, _+_, _-_, _≤_}
 use mathlib.Core.List.{List, [], _∷_, _++_, append-nil, flatten}
 use native.Mathlib.Omega.{arith}
-use lib.ListN.{length, take, drop, length-append, length-drop}
+use lib.ListN.{length, take, drop, length-append, length-take, length-drop}
 use lib.Seq.{take-add, take-length, take-append-seam, drop-at, drop-drop, length-take-le}
 use Rattle.sheet_parts.specs.Parts.{to-come, Begins, Parts, the-last, one-more, Next, Each-next}
 use Rattle.sheet_parts.specs.declared.Part.{Part}
@@ -29,6 +29,10 @@ front text done (part ∷ parts) next =
 
 pub handed-on-end-to-end : (text : List ℕ) (parts : List (List ℕ)) → Each-next text 0 parts → length (flatten parts) ≡ length text → flatten parts ≡ text
 handed-on-end-to-end text parts next all = front text 0 parts next ∙ rw (all, take-length)
+
+-- what comes next lies within the text
+pub next-within : (text part : List ℕ) (done : ℕ) → Next text done part → done ≤ length text → done + length part ≤ length text
+next-within text part done next within = omega (arith, simp (length-take, length-drop) at (ap length next))
 
 -- ---- a part that begins what was not handed on yet
 

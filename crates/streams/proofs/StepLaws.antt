@@ -6,12 +6,13 @@ use mathlib.Core.List.{List}
 use native.Mathlib.Omega.{arith}
 use lib.IntN.{ℤ, pos, negsuc}
 use lib.ListN.{length, take, drop, length-take, length-drop}
+use lib.Seq.{length-take-le}
 use lib.Signed.{ltZ}
 use borrow.Author.Tests.{lt-ltb, ne-eqb}
 use mir.Facts.{toZ-ofZ}
 use mir.Syntax.{w32}
 use mir.Val.{SFits, toZ, ofZ}
-use Rattle.io.specs.Counts.{clamped}
+use Rattle.io.specs.Counts.{Counts, clamped}
 use Rattle.streams.specs.Steps.{passes, step-of, Within, Tells}
 use Rattle.streams.specs.declared.Reached.{Reached}
 use Rattle.streams.specs.declared.Step.{Step}
@@ -56,6 +57,9 @@ pub moved-within : (list : List ℕ) (size count : ℕ) (step : Step) → Within
 moved-within list size count step within moved inside =
     let few : count ≤ length (take (length list - size) (drop size list)) = rw moved at within in
     omega (arith, simp (length-take, length-drop) at few)
+
+pub counts : (count : ℕ) (list : List ℕ) → count ≤ length list → Counts count list
+counts count list within = (within, sym (length-take-le count list within))
 
 pub goes-tells : (r : Reached) → r .more ≡ true → Tells r
 goes-tells r more stops = never (sym stops ∙ more)

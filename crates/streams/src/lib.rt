@@ -7,6 +7,7 @@ ghost use Prim.Native.Nat.{_≤_};
 ghost use mathlib.Core.Path.{_≡_};
 ghost use mathlib.Core.Bool.{true, false};
 ghost use lib.ListN.{length};
+ghost use Rattle.io.specs.Counts.{Counts};
 ghost use Rattle.streams.specs.Steps.{passes, step-of, Within, Tells};
 
 // What a read or a write did.
@@ -139,7 +140,7 @@ fn read_more(room: &mut [u8], size: usize, what: &[u8]) -> Reached
 
 // Reads until the input ends, the room is full, or a read fails, which is told as `what` with the reason.
 pub fn read_input(room: &mut [u8], what: &[u8]) -> Reached
-    ensures { λ r. ⌜ r .size ≤ length (now (room .exit)) ⌝ }
+    ensures { λ r. ⌜ Counts (r .size) (now (room .exit)) ⌝ }
 {
     let mut size = 0;
     let mut turns = u64::MAX;

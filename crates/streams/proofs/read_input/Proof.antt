@@ -1,8 +1,10 @@
 -- `streams::read_input` meets its contract. The measure is how many turns are left. Assumes nothing.
 use mathlib.Core.Path.{_≡_}
 use Prim.Native.Nat.{_≤_}
+use native.Mathlib.Omega.{arith}
 use lib.ListN.{length}
 use borrow.Author.Needs.{needs}
+use Rattle.streams.proofs.StepLaws.{counts}
 use Rattle.streams.proofs.read_input.Statement.{statement}
 use Rattle.streams.proofs.read_input.Tie as tie
 
@@ -22,7 +24,9 @@ same-length : tie.Need-same-length Inv-loop μ-loop
 same-length c = search needs
 
 returns : tie.Need-returns Inv-loop μ-loop
-returns c = search needs
+returns c =
+    let l = c .before .before .before .loop in
+    counts (c .no-turns-left .result .size) (l .room) (omega (arith, c .no-turns-left .ensures .0, l .inv .0))
 
 sub-turns : tie.Need-sub-turns Inv-loop μ-loop
 sub-turns c = search needs
@@ -34,7 +38,9 @@ same-length-2 : tie.Need-same-length-2 Inv-loop μ-loop
 same-length-2 c = search needs
 
 returns-2 : tie.Need-returns-2 Inv-loop μ-loop
-returns-2 c = search needs
+returns-2 c =
+    let r = c .before .before .before .read-more in
+    counts (r .result .size) (r .last .0) (omega (arith, r .ensures, r .kept .0))
 
 loop-less : tie.Need-loop-less Inv-loop μ-loop
 loop-less c = search needs
@@ -49,7 +55,9 @@ same-length-3 : tie.Need-same-length-3 Inv-loop μ-loop
 same-length-3 c = search needs
 
 returns-3 : tie.Need-returns-3 Inv-loop μ-loop
-returns-3 c = search needs
+returns-3 c =
+    let l = c .before .before .loop in
+    counts (c .ended .result .size) (l .room) (omega (arith, c .ended .ensures .0, l .inv .0))
 
 pub read-input-spec : {M : Type 1} → statement M
 read-input-spec =
