@@ -23,23 +23,21 @@ fn part_room() -> [u8; 16384]
     [0; 16384]
 }
 
+// Hands on a part, which comes next in the text, and counts the bytes that were taken. Nothing else writes to standard output.
+fn hand_on(input: &[u8], done: &mut usize, part: &[u8]) -> bool
+    requires { ⌜ (now done ≤ length (sheet-text (now input))) × Next (sheet-text (now input)) (now done) (now part) ⌝ }
+    ensures { λ r. ⌜ (r ≡ true → now (done .exit) ≡ now (done .entry) + length (now (part .entry))) ⌝ }
+{
+    let sent = streams::write_text(part, b"sheet: cannot write standard output");
+    let size = sent.size;
+    *done += size;
+    !sent.failed
+}
+
 // How many bytes of the text were handed on, and whether no failure was told.
 struct Printed {
     done: usize,
     whole: bool,
-}
-
-// Hands on a part, which comes next in the text. Nothing else writes to standard output.
-fn hand_on(input: &[u8], done: usize, part: &[u8]) -> Printed
-    requires { ⌜ (done ≤ length (sheet-text (now input))) × Next (sheet-text (now input)) done (now part) ⌝ }
-    ensures { λ r. ⌜ (r .whole ≡ true → r .done ≡ done + length (now (part .entry))) ⌝ }
-{
-    let sent = streams::write_text(part, b"sheet: cannot write standard output");
-    let size = sent.size;
-    Printed {
-        done: done + size,
-        whole: !sent.failed,
-    }
 }
 
 // Hands on the text of a sheet, part by part. If no failure was told, all of it was handed on.
@@ -51,15 +49,18 @@ fn print_sheet(input: &[u8]) -> Printed
     let mut done = 0;
     loop {
         let written = part.written;
-        let printed = hand_on(input, done, &room[..written]);
-        let whole = printed.whole;
-        if !whole {
-            return printed;
+        if !hand_on(input, &mut done, &room[..written]) {
+            return Printed {
+                done: done,
+                whole: false,
+            };
         }
         if part.place >= input.len() {
-            return printed;
+            return Printed {
+                done: done,
+                whole: true,
+            };
         }
-        done = printed.done;
         part = sheet_parts::next_part(input, part, &mut room);
     }
 }

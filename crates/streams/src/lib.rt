@@ -45,7 +45,7 @@ fn step_of(got: isize, buf: &[u8], error: i32) -> Step
     if passing(error) {
         return Step::Again;
     }
-    Step::Failed
+    return Step::Failed;
 }
 
 // How far a stream has come: the bytes moved so far, whether it goes on, and whether a failure was told.

@@ -12,8 +12,8 @@ use Rattle.sheet.proofs.hand_on.Statement.{statement}
 use Rattle.sheet.proofs.hand_on.Tie as tie
 
 -- the part lies within the text
-within : (c : tie.After-write-text) → let a = c .before .before .before .before .args in a .done + length (a .part .now) ≤ length (sheet-text (a .input .now))
-within c = let s = c .before .before .before .before in next-within (sheet-text (s .args .input .now)) (s .args .part .now) (s .args .done) (s .pre .1) (s .pre .0)
+within : (c : tie.After-write-text) → let a = c .before .before .before .before .args in a .done .now + length (a .part .now) ≤ length (sheet-text (a .input .now))
+within c = let s = c .before .before .before .before in next-within (sheet-text (s .args .input .now)) (s .args .part .now) (s .args .done .now) (s .pre .1) (s .pre .0)
 
 slice-aggregate-write-text : tie.Need-slice-aggregate-write-text
 slice-aggregate-write-text c = search needs
@@ -21,11 +21,13 @@ slice-aggregate-write-text c = search needs
 write-text-requires : tie.Need-write-text-requires
 write-text-requires c κs = search needs
 
-add-t9 : tie.Need-add-t9
-add-t9 c = record { fits = omega (arith, within c, c .write-text .ensures .0, never-longer (c .before .before .before .before .args .input .now)) }
+add-done : tie.Need-add-done
+add-done c = let w = c .before in record { fits = omega (arith, within w, w .write-text .ensures .0, never-longer (w .before .before .before .before .args .input .now)) }
 
 returns : tie.Need-returns
-returns c whole = let w = c .before .write-text in ap (λ (k : ℕ). c .before .before .before .before .before .args .done + k) (w .ensures .1 (not-true (w .result .failed) whole))
+returns c whole =
+    let w = c .before .before in
+    ap (λ (k : ℕ). w .before .before .before .before .args .done .now + k) (w .write-text .ensures .1 (not-true (w .write-text .result .failed) whole))
 
 pub hand-on-spec : {M : Type 1} → statement M
-hand-on-spec = tie.close (tie.spec slice-aggregate-write-text write-text-requires add-t9 returns)
+hand-on-spec = tie.close (tie.spec slice-aggregate-write-text write-text-requires add-done returns)

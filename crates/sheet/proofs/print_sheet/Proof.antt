@@ -24,7 +24,7 @@ abbrev μ-loop : tie.MeasureT-loop
 -- a part that was handed on
 module _ (h : tie.After-hand-on Inv-loop μ-loop) where
   abbrev at-loop : tie.At-loop Inv-loop μ-loop
-  at-loop = h .before .before
+  at-loop = h .before .before .before
 
   abbrev text : List ℕ
   text = sheet-text (at-loop .before .before .before .before .before .before .args .input .now)
@@ -35,7 +35,7 @@ module _ (h : tie.After-hand-on Inv-loop μ-loop) where
   size : length (take (at-loop .loop .part .written) (at-loop .loop .room)) ≡ at-loop .loop .part .written
   size = length-take-le _ _ (at-loop .loop .inv .2 .fits)
 
-  handed : h .hand-on .result .whole ≡ true → h .hand-on .result .done ≡ next-done
+  handed : h .hand-on .result ≡ true → h .hand-on .last .1 .0 ≡ next-done
   handed whole = h .hand-on .ensures whole ∙ ap (λ (k : ℕ). at-loop .loop .done + k) size
 
   handed-within : next-done ≤ length text
@@ -57,31 +57,32 @@ loop-holds c =
     (omega arith, f .kept .1 .0 ∙ sym (c .before .before .before .part-room .ensures), f .ensures)
 
 array-share-prefix-room : tie.Need-array-share-prefix-room Inv-loop μ-loop
-array-share-prefix-room c = omega (arith, c .loop .inv .2 .fits)
+array-share-prefix-room c = omega (arith, c .before .loop .inv .2 .fits)
 
 slice-aggregate-hand-on : tie.Need-slice-aggregate-hand-on Inv-loop μ-loop
-slice-aggregate-hand-on c = let l = c .before .loop in sym (length-take-le _ _ (l .inv .2 .fits))
+slice-aggregate-hand-on c = let l = c .before .before .loop in sym (length-take-le _ _ (l .inv .2 .fits))
 
 hand-on-requires : tie.Need-hand-on-requires Inv-loop μ-loop
 hand-on-requires c κs =
-    let l = c .before .loop in
+    let l = c .before .before .loop in
     (l .inv .0, comes-next _ _ _ (l .done) (l .part) (l .inv .2))
 
 returns : tie.Need-returns Inv-loop μ-loop
-returns c whole = absurd (false≢true (sym (not-true _ (c .if1 .taken)) ∙ whole))
+returns c whole = absurd (false≢true whole)
 
 returns-2 : tie.Need-returns-2 Inv-loop μ-loop
 returns-2 c whole =
-    let h = c .before .before .before in
-    let l = h .before .before .loop in
-    handed h whole ∙ all-handed-on _ _ _ (l .done) (l .part) (l .inv .2) (l .inv .0) (c .if2 .taken)
+    let e = c .before .before in
+    let h = e .before in
+    let l = at-loop h .loop in
+    handed h (not-false _ (e .if1 .left)) ∙ all-handed-on _ _ _ (l .done) (l .part) (l .inv .2) (l .inv .0) (c .if2 .taken)
 
 slice-aggregate-next-part : tie.Need-slice-aggregate-next-part Inv-loop μ-loop
 slice-aggregate-next-part c = search needs
 
 next-part-requires : tie.Need-next-part-requires Inv-loop μ-loop
 next-part-requires c κs =
-    let l = c .before .before .before .before .before .before .loop in
+    let l = c .before .before .before .before .before .before .before .loop in
     (omega (arith, l .inv .1), (l .inv .2 .goes-on, c .before .if2 .left))
 
 loop-less : tie.Need-loop-less Inv-loop μ-loop
@@ -94,7 +95,7 @@ loop-again c =
     let n = c .before .next-part in
     let e = c .before .before .before .before .before in
     let h = e .before in
-    let l = h .before .before .loop in
+    let l = at-loop h .loop in
     let done-is = handed h (not-false _ (e .if1 .left)) in (
       omega (arith, done-is, handed-within h),
       n .kept .1 .1 .0 ∙ l .inv .1,
