@@ -11,7 +11,7 @@ ghost use Rattle.io.specs.Counts.{Counts};
 ghost use Rattle.streams.specs.Steps.{passes, step-of, Within, Tells};
 
 // What a read or a write did.
-pub enum Step {
+enum Step {
     Moved(usize),
     Nothing,
     Again,
