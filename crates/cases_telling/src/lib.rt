@@ -1,7 +1,7 @@
 // Prints what the calls answer, a line each: of a reading or a writing its numbers; of judging and bound number, place, record, outcome, and the
 // rank list afterwards or the bound. The programs that are held to stored output share it.
 ghost use mathlib.Core.Path.{_≡_};
-use libc::STDOUT_FILENO;
+use libc::STDERR_FILENO;
 use record::Reading;
 use record::Writing;
 use verdict::Bounded;
@@ -9,15 +9,22 @@ use verdict::Grade;
 use verdict::Outcome;
 use verdict::Verdict;
 
+// All that is printed goes through here. What fails is told by one line: standard error is closed behind it, since the words that follow fail
+// as well and nothing remembers from one to the next.
 pub fn word(text: &[u8])
     ensures { λ r. ⌜ r ≡ tt ⌝ }
 {
-    io::write_all(STDOUT_FILENO, text);
+    let sent = streams::write_text(text, b"cannot write standard output");
+    if sent.failed {
+        libc::close(STDERR_FILENO);
+    }
 }
 
 fn number(x: usize) {
+    let mut text = [0u8; 20];
+    let end = io::decimal(x as u64, &mut text);
     word(b" ");
-    io::print_decimal(STDOUT_FILENO, x as u64);
+    word(&text[..end]);
 }
 
 // Number, place, kind, n, m and the count of values.

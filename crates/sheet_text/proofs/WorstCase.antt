@@ -163,7 +163,7 @@ module _ (l c : List ℕ) (loop-sound : first sound (loop-record l) ≡ done) (n
   verdict-small agreed e = accepted-small (rw e) (kind-of (j .records)) refl
   verdict-small (refusal about number place) e = rw e (rw e at said-is-small)
 
-  certificate-size : (count : ℕ) → count < 10 ^ 5 → length (certificate-line l count c) ≤ 276
+  pub certificate-size : (count : ℕ) → count < 10 ^ 5 → length (certificate-line l count c) ≤ 276
   unfolding certificate-line
   certificate-size count few = verdict-size count (judges j) printed few (verdict-small (said judging j) refl)
 
@@ -201,7 +201,7 @@ loop-told : (l : List ℕ) → length l ≤ 65_536 → Small-told 65_536 (first 
 unfolding loop-record
 loop-told l short = told-more (length l) (first sound (loop-record l)) short (sound-told (loop-record l) loop-known)
 
-judged-size : (t : Told) (l rest : List ℕ) → first sound (loop-record l) ≡ t → length l ≤ 65_536 → length rest ≤ 65_536 → length (judged t l rest) ≤ 46 * length rest + 300
+pub judged-size : (t : Told) (l rest : List ℕ) → first sound (loop-record l) ≡ t → length l ≤ 65_536 → length rest ≤ 65_536 → length (judged t l rest) ≤ 46 * length rest + 300
 unfolding judged
 judged-size done l rest e short rest-short =
     rw (length-append, line-loop)

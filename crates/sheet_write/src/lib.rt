@@ -13,7 +13,7 @@ ghost use Rattle.record_parting.specs.Parting.{records};
 ghost use Rattle.sheet_text.specs.Sheets.{certificate-line, lines, judged, sheet-text, worst, sheet-answers, room-after};
 
 // Judges a certificate for a sound loop of n variables and m rows, and writes its line.
-fn put_certificate(
+pub fn put_certificate(
     text: &mut [u8],
     place: usize,
     rows: &[u8],
@@ -58,7 +58,7 @@ fn put_certificates(
 }
 
 // Writes the text of a loop record and the certificates after it.
-fn put_judged(text: &mut [u8], rows: &[u8], certificates: &[u8]) -> usize
+pub fn put_judged(text: &mut [u8], rows: &[u8], certificates: &[u8]) -> usize
     requires { ⌜ length (judged (first sound (loop-record (now rows))) (now rows) (now certificates)) ≤ length (now text) ⌝ }
     ensures { λ r. ⌜ Puts (now (text .entry)) 0 (judged (first sound (loop-record (now (rows .entry)))) (now (rows .entry)) (now (certificates .entry))) r (now (text .exit)) ⌝ }
 {
@@ -72,7 +72,7 @@ fn put_judged(text: &mut [u8], rows: &[u8], certificates: &[u8]) -> usize
 }
 
 // Writes the text of an input.
-fn put_sheet(text: &mut [u8], input: &[u8]) -> usize
+pub fn put_sheet(text: &mut [u8], input: &[u8]) -> usize
     requires { ⌜ length (sheet-text (now input)) ≤ length (now text) ⌝ }
     ensures { λ r. ⌜ Puts (now (text .entry)) 0 (sheet-text (now (input .entry))) r (now (text .exit)) ⌝ }
 {
