@@ -28,7 +28,7 @@ pub fn put_certificate(
 {
     let mut rank = [0i64; 16];
     let v = judge::judge_sound(rows, n, m, certificate, &mut rank);
-    sheet_lines::put_line(text, place, count, v, &rank[..n])
+    sheet_write_lines::put_line(text, place, count, v, &rank[..n])
 }
 
 // Writes a line for each certificate of a sound loop, with its count from 1.
@@ -63,11 +63,11 @@ pub fn put_judged(text: &mut [u8], rows: &[u8], certificates: &[u8]) -> usize
     ensures { λ r. ⌜ Puts (now (text .entry)) 0 (judged (first sound (loop-record (now (rows .entry)))) (now (rows .entry)) (now (certificates .entry))) r (now (text .exit)) ⌝ }
 {
     let found = record_check::check_loop(rows);
-    let at = sheet_lines::put_bytes(text, 0, b"loop ");
+    let at = sheet_write_lines::put_bytes(text, 0, b"loop ");
     if found.number != 0 {
-        return sheet_lines::put_refusal(text, at, found.number, found.place);
+        return sheet_write_lines::put_refusal(text, at, found.number, found.place);
     }
-    let at = sheet_lines::put_pair(text, at, found.n, found.m);
+    let at = sheet_write_lines::put_pair(text, at, found.n, found.m);
     put_certificates(text, at, rows, found.n, found.m, certificates)
 }
 
@@ -77,7 +77,7 @@ pub fn put_sheet(text: &mut [u8], input: &[u8]) -> usize
     ensures { λ r. ⌜ Puts (now (text .entry)) 0 (sheet-text (now (input .entry))) r (now (text .exit)) ⌝ }
 {
     if input.len() > 65536 {
-        return sheet_lines::put_bytes(text, 0, b"input too long\n");
+        return sheet_write_lines::put_bytes(text, 0, b"input too long\n");
     }
     let end = record_parting::first_end(input);
     put_judged(text, &input[..end], &input[end..])

@@ -1,4 +1,4 @@
--- `sheet_lines::put_verdict` meets its contract: in each arm one writer puts the whole line. Assumes nothing.
+-- `sheet_write_lines::put_verdict` meets its contract: in each arm one writer puts the whole line. Assumes nothing.
 use mathlib.Core.Path.{_≡_, ap}
 use Prim.Native.Nat.{ℕ}
 use mathlib.Core.List.{List, [], _∷_, _++_}
@@ -9,11 +9,11 @@ use mir.Val.{SFits}
 use mir.Facts.{toZ-ofZ}
 use borrow.Author.Needs.{needs}
 use Rattle.decimal.specs.Decimals.{decimal}
 use Rattle.sheet_lines.specs.VerdictLines.{rank-words, outcome-words}
 use Rattle.sheet_lines.specs.Words.{bytes, line}
 use Rattle.sheet_lines.proofs.LineLaws.{rank-word, lasso-word, whole-line, fractions-line, nothing-line, ranking-line, lasso-line, whole-exclusion-line, fractions-exclusion-line}
-use Rattle.sheet_lines.proofs.put_verdict.Statement.{statement}
-use Rattle.sheet_lines.proofs.put_verdict.Tie as tie
+use Rattle.sheet_write_lines.proofs.put_verdict.Statement.{statement}
+use Rattle.sheet_write_lines.proofs.put_verdict.Tie as tie
 
 -- the line that is to be written
 abbrev text-of : tie.Start → List ℕ

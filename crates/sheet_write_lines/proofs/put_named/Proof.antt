@@ -1,12 +1,12 @@
--- `sheet_lines::put_named` meets its contract. Assumes nothing.
+-- `sheet_write_lines::put_named` meets its contract. Assumes nothing.
 use mathlib.Core.List.{[], _∷_, _++_}
 use native.Mathlib.Omega.{arith}
 use mir.Facts.{toZ-ofZ}
 use borrow.Author.Needs.{needs}
 use Rattle.decimal.specs.Decimals.{signed-decimal}
 use Rattle.decimal.proofs.RoomLaws.{puts-on}
-use Rattle.sheet_lines.proofs.put_named.Statement.{statement}
-use Rattle.sheet_lines.proofs.put_named.Tie as tie
+use Rattle.sheet_write_lines.proofs.put_named.Statement.{statement}
+use Rattle.sheet_write_lines.proofs.put_named.Tie as tie
 
 put-bytes-requires : tie.Need-put-bytes-requires
 put-bytes-requires c κs = search needs

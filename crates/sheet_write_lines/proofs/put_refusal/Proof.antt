@@ -1,4 +1,4 @@
--- `sheet_lines::put_refusal` meets its contract. Assumes nothing.
+-- `sheet_write_lines::put_refusal` meets its contract. Assumes nothing.
 use mathlib.Core.Path.{ap}
 use mathlib.Core.List.{[], _∷_}
 use native.Mathlib.Omega.{arith}
@@ -6,10 +6,10 @@ use lib.ListN.{length}
 use borrow.Author.Needs.{needs}
 use Rattle.decimal.specs.Decimals.{decimal}
 use Rattle.decimal.proofs.RoomLaws.{puts-on}
 use Rattle.sheet_lines.specs.Words.{line}
 use Rattle.sheet_lines.proofs.LineLaws.{refused-word, line-refused}
-use Rattle.sheet_lines.proofs.put_refusal.Statement.{statement}
-use Rattle.sheet_lines.proofs.put_refusal.Tie as tie
+use Rattle.sheet_write_lines.proofs.put_refusal.Statement.{statement}
+use Rattle.sheet_write_lines.proofs.put_refusal.Tie as tie
 
 slice-aggregate-put-bytes : tie.Need-slice-aggregate-put-bytes
 slice-aggregate-put-bytes c = search needs

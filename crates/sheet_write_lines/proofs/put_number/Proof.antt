@@ -1,10 +1,10 @@
--- `sheet_lines::put_number` meets its contract. Assumes nothing.
+-- `sheet_write_lines::put_number` meets its contract. Assumes nothing.
 use native.Mathlib.Omega.{arith}
 use borrow.Author.Needs.{needs}
 use Rattle.decimal.specs.Decimals.{decimal}
 use Rattle.decimal.proofs.RoomLaws.{puts-byte}
-use Rattle.sheet_lines.proofs.put_number.Statement.{statement}
-use Rattle.sheet_lines.proofs.put_number.Tie as tie
+use Rattle.sheet_write_lines.proofs.put_number.Statement.{statement}
+use Rattle.sheet_write_lines.proofs.put_number.Tie as tie
 
 put-u64-requires : tie.Need-put-u64-requires
 put-u64-requires c κs = search needs

@@ -1,4 +1,4 @@
--- `sheet_lines::put_bytes` meets its contract: so far, the first i bytes of the word are written. Assumes nothing.
+-- `sheet_write_lines::put_bytes` meets its contract: so far, the first i bytes of the word are written. Assumes nothing.
 use mathlib.Core.Path.{_≡_, refl}
 use Prim.Native.Nat.{_+_, _-_, _≤_, _<_}
 use native.Mathlib.Numerals.{add-one}
@@ -8,8 +8,8 @@ use lib.Seq.{take-suc, take-all, length-take-le}
 use borrow.Author.Needs.{needs}
 use Rattle.decimal.specs.Rooms.{Puts}
 use Rattle.decimal.proofs.RoomLaws.{puts-none, puts-byte}
-use Rattle.sheet_lines.proofs.put_bytes.Statement.{statement}
-use Rattle.sheet_lines.proofs.put_bytes.Tie as tie
+use Rattle.sheet_write_lines.proofs.put_bytes.Statement.{statement}
+use Rattle.sheet_write_lines.proofs.put_bytes.Tie as tie
 
 abbrev Inv-loop : tie.InvT-loop
 Inv-loop text₀ place word at₀ i₀ text at i = (i ≤ length word) × (at ≡ place + i) × (length text ≡ length text₀) × Puts text₀ place (take i word) at text

@@ -1,4 +1,4 @@
--- `sheet_lines::put_rank` meets its contract. Assumes nothing.
+-- `sheet_write_lines::put_rank` meets its contract. Assumes nothing.
 use mathlib.Core.List.{[], _∷_, _++_}
 use native.Mathlib.Omega.{arith}
 use lib.ListN.{length-append}
@@ -6,9 +6,9 @@ use mir.Facts.{toZ-ofZ}
 use borrow.Author.Needs.{needs}
 use Rattle.decimal.specs.Decimals.{signed-decimal}
 use Rattle.decimal.proofs.RoomLaws.{puts-on}
 use Rattle.sheet_lines.proofs.LineLaws.{entries, from-word, down-word, line-rank, length-rank}
-use Rattle.sheet_lines.proofs.put_rank.Statement.{statement}
-use Rattle.sheet_lines.proofs.put_rank.Tie as tie
+use Rattle.sheet_write_lines.proofs.put_rank.Statement.{statement}
+use Rattle.sheet_write_lines.proofs.put_rank.Tie as tie
 
 put-bytes-requires : tie.Need-put-bytes-requires
 put-bytes-requires c κs = search needs

@@ -1,13 +1,13 @@
--- `sheet_lines::put_pair` meets its contract. Assumes nothing.
+-- `sheet_write_lines::put_pair` meets its contract. Assumes nothing.
 use mathlib.Core.List.{[], _∷_, _++_}
 use native.Mathlib.Omega.{arith}
 use lib.ListN.{length-append}
 use borrow.Author.Needs.{needs}
 use Rattle.decimal.specs.Decimals.{decimal}
 use Rattle.decimal.proofs.RoomLaws.{puts-on}
 use Rattle.sheet_lines.proofs.LineLaws.{line-pair, length-pair}
-use Rattle.sheet_lines.proofs.put_pair.Statement.{statement}
-use Rattle.sheet_lines.proofs.put_pair.Tie as tie
+use Rattle.sheet_write_lines.proofs.put_pair.Statement.{statement}
+use Rattle.sheet_write_lines.proofs.put_pair.Tie as tie
 
 put-number-requires : tie.Need-put-number-requires
 put-number-requires c κs = omega (arith, length-pair (decimal (c .before .before .args .x)) (decimal (c .before .before .args .y)))

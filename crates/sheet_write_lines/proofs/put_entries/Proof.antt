@@ -1,4 +1,4 @@
--- `sheet_lines::put_entries` meets its contract: so far, the first i entries are written. Assumes nothing.
+-- `sheet_write_lines::put_entries` meets its contract: so far, the first i entries are written. Assumes nothing.
 use mathlib.Core.Path.{_≡_, refl, ap, _∙_}
 use Prim.Native.Nat.{suc, _-_, _≤_}
 use mathlib.Core.List.{[], _∷_, _++_}
@@ -14,10 +14,10 @@ use borrow.Author.Needs.{needs, sfits-of}
 use Rattle.decimal.specs.Decimals.{signed-decimal}
 use Rattle.decimal.specs.Rooms.{Puts}
 use Rattle.decimal.proofs.RoomLaws.{puts-none, puts-on}
 use Rattle.sheet_lines.specs.Words.{run}
 use Rattle.sheet_lines.proofs.LineLaws.{entries, entries-more, entries-part}
-use Rattle.sheet_lines.proofs.put_entries.Statement.{statement}
-use Rattle.sheet_lines.proofs.put_entries.Tie as tie
+use Rattle.sheet_write_lines.proofs.put_entries.Statement.{statement}
+use Rattle.sheet_write_lines.proofs.put_entries.Tie as tie
 
 abbrev Inv-loop : tie.InvT-loop
 Inv-loop text₀ place rank at₀ i₀ text at i =

@@ -1,12 +1,12 @@
--- `sheet_lines::put_whole` meets its contract. Assumes nothing.
+-- `sheet_write_lines::put_whole` meets its contract. Assumes nothing.
 use native.Mathlib.Omega.{arith}
 use mir.Facts.{toZ-ofZ}
 use borrow.Author.Needs.{needs}
 use Rattle.decimal.specs.Decimals.{signed-decimal}
 use Rattle.decimal.specs.Rooms.{Puts}
 use Rattle.decimal.proofs.RoomLaws.{puts-byte}
-use Rattle.sheet_lines.proofs.put_whole.Statement.{statement}
-use Rattle.sheet_lines.proofs.put_whole.Tie as tie
+use Rattle.sheet_write_lines.proofs.put_whole.Statement.{statement}
+use Rattle.sheet_write_lines.proofs.put_whole.Tie as tie
 
 -- the number that is passed on is z
 module _ (c : tie.After-slice-known2) where

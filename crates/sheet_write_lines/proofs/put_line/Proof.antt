@@ -1,15 +1,15 @@
--- `sheet_lines::put_line` meets its contract. Assumes nothing.
+-- `sheet_write_lines::put_line` meets its contract. Assumes nothing.
 use mathlib.Core.List.{[], _∷_, _++_}
 use native.Mathlib.Omega.{arith}
 use lib.ListN.{length-append}
 use borrow.Author.Needs.{needs}
 use Rattle.decimal.specs.Decimals.{decimal}
 use Rattle.decimal.proofs.RoomLaws.{puts-on}
 use Rattle.sheet_lines.specs.VerdictLines.{outcome-words}
 use Rattle.sheet_lines.specs.Words.{line}
 use Rattle.sheet_lines.proofs.LineLaws.{line-count, length-count}
-use Rattle.sheet_lines.proofs.put_line.Statement.{statement}
-use Rattle.sheet_lines.proofs.put_line.Tie as tie
+use Rattle.sheet_write_lines.proofs.put_line.Statement.{statement}
+use Rattle.sheet_write_lines.proofs.put_line.Tie as tie
 
 put-number-requires : tie.Need-put-number-requires
 put-number-requires c κs =
