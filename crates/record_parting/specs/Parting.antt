@@ -1,5 +1,5 @@
--- 01, "The program "sheet"": how the input is parted into records: "A certificate with fewer than 4 bytes, L < 2 or too few bytes takes all the
--- rest, and its line is the last. The loop record is parted from the input by the same rule."
+-- 01, "The program "sheet"": how the input is parted into records: "A certificate with fewer than 4 bytes, L < 2 or too few bytes
+-- takes all the rest, and its line is the last. The loop record is parted from the input by the same rule."
 use Prim.Native.Nat.{ℕ, zero, suc, _+_}
 use mathlib.Core.Bool.{Bool, cond, _&&_}
 use mathlib.Core.List.{List, [], _∷_}

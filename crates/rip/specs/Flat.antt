@@ -18,14 +18,33 @@ flat-writing w = record { number = w .number; place = w .place; written = w .wri
 
 -- a verdict whose outcome is told in numbers
 abbrev pub told : Verdict → Numbers → FlatVerdict
-told v o = record { number = v .number; place = v .place; «record» = v .about; outcome = o .kind; start = o .start; fall = o .fall; grade = o .grade }
+told v o =
+    record {
+      number = v .number;
+      place = v .place;
+      «record» = v .about;
+      outcome = o .kind;
+      start = o .start;
+      fall = o .fall;
+      grade = o .grade;
+    }
 
 abbrev pub flat-verdict : Verdict → FlatVerdict
 flat-verdict v = told v (numbers (v .outcome))
 
 -- the verdict's fields, then the bound
 abbrev pub beside : FlatVerdict → Bounded → FlatBounded
-beside v b = record { number = v .number; place = v .place; «record» = v .«record»; outcome = v .outcome; start = v .start; fall = v .fall; grade = v .grade; bound = b .bound }
+beside v b =
+    record {
+      number = v .number;
+      place = v .place;
+      «record» = v .«record»;
+      outcome = v .outcome;
+      start = v .start;
+      fall = v .fall;
+      grade = v .grade;
+      bound = b .bound;
+    }
 
 abbrev pub flat-bounded : Bounded → FlatBounded
 flat-bounded b = beside (flat-verdict (b .verdict)) b

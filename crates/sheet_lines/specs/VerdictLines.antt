@@ -1,5 +1,5 @@
--- 01, "The program "sheet"": the line of a certificate: "its count from 1; then `rank` or `lasso`, the n entries of r, `from`, δ0, `down`, δ; or
--- `excluded whole`; or `excluded fractions`; or `refused`, number, place."
+-- 01, "The program "sheet"": the line of a certificate: "its count from 1; then `rank` or `lasso`, the n entries of r, `from`, δ0,
+-- `down`, δ; or `excluded whole`; or `excluded fractions`; or `refused`, number, place."
 use Prim.Native.Nat.{ℕ}
 use mathlib.Core.List.{List, [], _∷_, _++_, map}
 use lib.IntN.{ℤ}

@@ -1,4 +1,5 @@
--- 01, "The program "sheet"": "Words are parted by one blank, lines end in one newline". Words are bytes; numbers become words by crate `decimal`.
+-- 01, "The program "sheet"": "Words are parted by one blank, lines end in one newline". Words are bytes; numbers become words by
+-- crate `decimal`.
 use Prim.Native.Nat.{ℕ}
 use Prim.Native.Char.{code}
 use Prim.Native.String as Text

@@ -1,5 +1,5 @@
--- The text of a sheet in parts: what is still to come after a part, what a part promises, and what it means that parts are handed on one after another.
--- Nothing here says how long a part is: that is the room's affair.
+-- The text of a sheet in parts: what is still to come after a part, what a part promises, and what it means that parts are handed
+-- on one after another. Nothing here says how long a part is: that is the room's affair.
 use mathlib.Core.Path.{_≡_}
 use Prim.Native.Nat.{ℕ, _+_, _≤_, _<_}
 use mathlib.Core.List.{List, [], _∷_, _++_}
@@ -26,10 +26,13 @@ pub record Begins (text : List ℕ) (input room : List ℕ) (part : Part) : Type
   pub fits : part .written ≤ length room
   pub whole : text ≡ take (part .written) room ++ to-come input (part .place) (part .count)
 
--- the parts of a text, to the last: what each call left at the front of a room, if the first begins the text and each other one what was still to come
+-- the parts of a text, to the last: what each call left at the front of a room, if the first begins the text and each other one
+-- what was still to come
 pub data Parts (input : List ℕ) : List ℕ → List (List ℕ) → Type 0 where
-  the-last : {text room : List ℕ} {part : Part} → Begins text input room part → length input ≤ part .place → Parts input text (take (part .written) room ∷ [])
-  one-more : {text room : List ℕ} {part : Part} {parts : List (List ℕ)} → Begins text input room part → Parts input (to-come input (part .place) (part .count)) parts
+  the-last : {text room : List ℕ} {part : Part} → Begins text input room part → length input ≤ part .place
+      → Parts input text (take (part .written) room ∷ [])
+  one-more : {text room : List ℕ} {part : Part} {parts : List (List ℕ)} → Begins text input room part
+      → Parts input (to-come input (part .place) (part .count)) parts
       → Parts input text (take (part .written) room ∷ parts)
 
 -- ---- handing on

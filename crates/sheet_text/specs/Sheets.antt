@@ -32,7 +32,8 @@ rows-in loop = counts-read (loop-record loop) .m
 -- the line of a certificate for a loop: its verdict, and the n entries of r, which an accepted rank leaves at the front of the list
 unfoldable pub certificate-line : List ℕ → ℕ → List ℕ → List ℕ
 certificate-line loop count certificate =
-    verdict-line count (judges (judge-of loop certificate lent)) (take (variables-in loop) (rank-after (judge-of loop certificate lent) lent))
+    verdict-line count (judges (judge-of loop certificate lent))
+    (take (variables-in loop) (rank-after (judge-of loop certificate lent) lent))
 
 -- one line per certificate, with its count
 unfoldable pub lines : List ℕ → ℕ → List (List ℕ) → List ℕ
@@ -56,7 +57,8 @@ sheet-text input =
 
 -- ---- the call
 
--- no text is longer: a line has at most 276 bytes, a record takes 6 but for the last, and the first line has 24; past 65,536 there is one short line
+-- no text is longer: a line has at most 276 bytes, a record takes 6 but for the last, and the first line has 24; past 65,536 there
+-- is one short line
 abbrev pub worst : ℕ → ℕ
 worst size = 46 * min size 65_536 + 300
 

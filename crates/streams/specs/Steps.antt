@@ -1,5 +1,5 @@
--- What the answer of a read or a write means. Only 0 is the end of an input, and no failure is: a call that was interrupted or that would have had to wait is
--- tried again, and every other failure is told.
+-- What the answer of a read or a write means. Only 0 is the end of an input, and no failure is: a call that was interrupted or that
+-- would have had to wait is tried again, and every other failure is told.
 use Prim.Native.Nat.{ℕ, zero, suc, _≤_}
 use mathlib.Core.Bool.{Bool, true, false, cond, _||_}
 use mathlib.Core.Path.{_≡_}

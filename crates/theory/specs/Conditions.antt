@@ -1,5 +1,6 @@
--- The conditions of each kind as tests that compute, in 01's order: the first that fails is told. 01 tells every one of them as 8, place 0; the numbers
--- and places here are those by which 02, Q-1 tells them apart: a column or a row, from 0, and 0 for a right side.
+-- The conditions of each kind as tests that compute, in 01's order: the first that fails is told. 01 tells every one of them as 8,
+-- place 0; the numbers and places here are those by which 02, Q-1 tells them apart: a column or a row, from 0, and 0 for a right
+-- side.
 use Prim.Native.Nat.{ℕ}
 use mathlib.Core.Bool.{Bool}
 use mathlib.Core.List.{List, [], _∷_, _++_}
@@ -51,7 +52,10 @@ rowAt i p = getD (p .loop .rows) i (record { now = []; next = []; right = pos 0 
 unfoldable pub exclusionTests : ℕ → List (Test (Proposal Exclusion))
 exclusionTests m =
     (31 at-each m unless λ i p. leZ (dot (rowAt i p .now) (p .values .«V») +ℤ dot (rowAt i p .next) (p .values .U)) (pos 0)) ++
-    (32 at-each m unless λ i p. leZ (dot (rowAt i p .now) (less (p .values .W) (p .values .«V»)) +ℤ dot (rowAt i p .next) (p .values .W)) (pos (p .values .q) *ℤ rowAt i p .right))
+    (32 at-each m unless λ i p.
+    leZ
+    (dot (rowAt i p .now) (less (p .values .W) (p .values .«V»)) +ℤ dot (rowAt i p .next) (p .values .W))
+    (pos (p .values .q) *ℤ rowAt i p .right))
 
 -- ---- lasso: TB = 0; TB′ = -k s; Td <= k s0; HA - h0 s = 0; HA′ = -k2 s; Hb + h0 s0 <= k2 s0; then the ranking over the longer loop
 

@@ -9,7 +9,8 @@ use Rattle.whole.specs.Sums.{dot, sum, scale, Each, NonNeg}
 use Rattle.theory.specs.Loops.{Row, A, A′, b, Loop, over, withRow, Step, Run, Endless}
 use Rattle.theory.specs.Rankings.{Ranking, NonNegative, RankingHolds, bound, Bounds}
 
--- stem rows (B, B′, d); the invariant s·x + s0 >= 0; T, one per stem row, and its scale k; H, one per loop row, h0 and their scale k2; the ranking
+-- stem rows (B, B′, d); the invariant s·x + s0 >= 0; T, one per stem row, and its scale k; H, one per loop row, h0 and their scale
+-- k2; the ranking
 pub record Lasso : Type 0 where
   pub stem : List Row
   pub s : List ℤ
@@ -37,7 +38,8 @@ added loop c = record { now = scale (negsuc 0) (c .s); next = replicate (loop .v
 abbrev pub longer : Loop → Lasso → Loop
 longer loop c = withRow loop (added loop c)
 
--- Start: TB = 0, TB′ = -k s, Td <= k s0. Kept: HA - h0 s = 0, HA′ = -k2 s, Hb + h0 s0 <= k2 s0. Ranking: the four conditions with the added row
+-- Start: TB = 0, TB′ = -k s, Td <= k s0. Kept: HA - h0 s = 0, HA′ = -k2 s, Hb + h0 s0 <= k2 s0. Ranking: the four conditions with
+-- the added row
 pub record LassoHolds (loop : Loop) (c : Lasso) : Type 0 where
   pub start-now : (j : ℕ) → j < loop .variables → sum (c .T) (A j) (c .stem) ≡ pos 0
   pub start-next : (j : ℕ) → j < loop .variables → sum (c .T) (A′ j) (c .stem) ≡ negℤ (pos (c .k) *ℤ getD (c .s) j (pos 0))
@@ -51,8 +53,9 @@ pub record LassoHolds (loop : Loop) (c : Lasso) : Type 0 where
 abbrev pub Invariant : Lasso → List ℤ → Type 0
 Invariant c x = pos 0 ≤ℤ (dot (c .s) x +ℤ c .s0)
 
--- what a lasso promises: every stem step starts the invariant, every run keeps it, and the runs from states that meet it are bounded, with the rank,
--- start and fall of the longer loop. So the runs that follow a stem step from x to x′ are, which is the promise of 01
+-- what a lasso promises: every stem step starts the invariant, every run keeps it, and the runs from states that meet it are
+-- bounded, with the rank, start and fall of the longer loop. So the runs that follow a stem step from x to x′ are, which is the
+-- promise of 01
 pub record LassoPromise (loop : Loop) (c : Lasso) (r : List ℤ) (δ0 δ : ℤ) : Type 0 where
   pub started : (x x′ : List ℤ) → Step (stemOf loop c) 1 x x′ → Invariant c x′
   pub kept : (x : List ℤ) (ys : List (List ℤ)) → Invariant c x → Run loop x ys → Each (Invariant c) ys

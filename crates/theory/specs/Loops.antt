@@ -1,7 +1,7 @@
--- 01, "What the checker covers": loops, steps and runs, after document 000, section 2. Nothing here is limited in size: the number of variables and
--- of rows may be 0, entries and states are any whole numbers.
--- A, A′ and states have one entry per variable. Entries that a row lacks count 0 and those past the last variable are not looked at, so no statement
--- below has to ask for the length of a row.
+-- 01, "What the checker covers": loops, steps and runs, after document 000, section 2. Nothing here is limited in size: the number
+-- of variables and of rows may be 0, entries and states are any whole numbers. A, A′ and states have one entry per variable.
+-- Entries that a row lacks count 0 and those past the last variable are not looked at, so no statement below has to ask for the
+-- length of a row.
 use Prim.Native.Nat.{ℕ, suc}
 use mathlib.Core.Path.{_≡_}
 use mathlib.Core.List.{List, [], _∷_, _++_}

@@ -1,5 +1,6 @@
--- Rankings: document 000, Figure 1, and 01, "Conditions": the conditions as mathematics, what follows from the multipliers, and what is promised.
--- There is one multiplier per row. Those that are missing count 0 and those past the last row count nothing, so no statement has to ask for their number.
+-- Rankings: document 000, Figure 1, and 01, "Conditions": the conditions as mathematics, what follows from the multipliers, and
+-- what is promised. There is one multiplier per row. Those that are missing count 0 and those past the last row count nothing, so
+-- no statement has to ask for their number.
 use Prim.Native.Nat.{ℕ, _+_, _/_, _≤_, _<_}
 use mathlib.Core.Path.{_≡_}
 use mathlib.Core.Bool.{cond}
@@ -55,7 +56,8 @@ RanksWhole loop r δ0 δ = Ranks loop 1 r δ0 δ
 abbrev pub RanksFractions : Loop → List ℤ → ℤ → ℤ → Type 0
 RanksFractions loop r δ0 δ = (p : ℕ) → 1 ≤ p → Ranks loop p r δ0 δ
 
--- what a ranking promises of the runs whose first state is one of some states: no more steps than the bound at the first state, and no endless run
+-- what a ranking promises of the runs whose first state is one of some states: no more steps than the bound at the first state, and
+-- no endless run
 pub record Bounds (loop : Loop) (From : List ℤ → Type 0) (r : List ℤ) (δ0 δ : ℤ) : Type 0 where
   pub steps : (x : List ℤ) (ys : List (List ℤ)) → From x → Run loop x ys → length ys ≤ bound r δ0 δ x
   pub ends : (state : ℕ → List ℤ) → From (state 0) → Endless loop state → ⊥

@@ -1,4 +1,5 @@
--- Loops and certificates of 01's sample sheet, as lists of rows: those that theorems speak of, and those that fix the order of the conditions.
+-- Loops and certificates of 01's sample sheet, as lists of rows: those that theorems speak of, and those that fix the order of the
+-- conditions.
 use Prim.Native.Nat.{ℕ}
 use mathlib.Core.List.{List, [], _∷_, map}
 use lib.IntN.{ℤ, pos, negsuc}
@@ -119,7 +120,9 @@ lasso-loop =
 unfoldable pub unlike-lasso : Lasso
 unlike-lasso =
     record {
-      stem = row (pos 3 ∷ negsuc 8 ∷ []) (negsuc 0 ∷ pos 1 ∷ []) (pos 10) ∷ row (negsuc 3 ∷ pos 12 ∷ []) (negsuc 9 ∷ pos 10 ∷ []) (pos 15) ∷ [];
+      stem =
+          row (pos 3 ∷ negsuc 8 ∷ []) (negsuc 0 ∷ pos 1 ∷ []) (pos 10) ∷
+          row (negsuc 3 ∷ pos 12 ∷ []) (negsuc 9 ∷ pos 10 ∷ []) (pos 15) ∷ [];
       s = pos 2 ∷ negsuc 1 ∷ [];
       s0 = pos 5;
       k = 17;

@@ -1,5 +1,6 @@
--- What the conditions tell of the samples of 01, of the sheet's second certificate, and of each condition where it is the first to fail; and the rank,
--- start, fall and bounds of the samples. Two tables, a line being what is computed and what it has to be; `SampleTheorems` computes them.
+-- What the conditions tell of the samples of 01, of the sheet's second certificate, and of each condition where it is the first to
+-- fail; and the rank, start, fall and bounds of the samples. Two tables, a line being what is computed and what it has to be;
+-- `SampleTheorems` computes them.
 use Prim.Native.Nat.{ℕ}
 use mathlib.Core.List.{List, [], _∷_}
 use lib.IntN.{ℤ, pos, negsuc}
@@ -8,8 +9,11 @@ use Rattle.whole.specs.Sums.{dot, sum, tabulate, scale, add, less}
 use Rattle.theory.specs.Loops.{Loop, over}
 use Rattle.theory.specs.Rankings.{Ranking, rank, start, fall, bound}
 use Rattle.theory.specs.Lassos.{longer}
-use Rattle.theory.specs.Conditions.{rankingTold, exclusionTold, lassoTold, rankingTests, exclusionTests, lassoTests, _at-each_unless_, of}
-use Rattle.theory.specs.Samples.{row, ranking, excluding, lasso, P, S1, S7-loop, S7, S9-loop, S10-loop, S10-stem, S10-ranking, S10, S14-loop, S14, unlike-loop, unlike-ranking, excluded-loop, unlike-exclusion, lasso-loop, unlike-lasso}
+use Rattle.theory.specs.Conditions.{rankingTold, exclusionTold, lassoTold, rankingTests, exclusionTests, lassoTests}
+use Rattle.theory.specs.Conditions.{_at-each_unless_, of}
+use Rattle.theory.specs.Samples.{row, ranking, excluding, lasso, P, S1, S7-loop, S7, S9-loop, S10-loop, S10-stem, S10-ranking}
+use Rattle.theory.specs.Samples.{S10, S14-loop, S14, unlike-loop, unlike-ranking, excluded-loop, unlike-exclusion, lasso-loop}
+use Rattle.theory.specs.Samples.{unlike-lasso}
 
 unfoldable pub told : List (Told × Told)
 told =
@@ -42,8 +46,10 @@ told =
     (exclusionTold S7-loop (excluding 1 (negsuc 1) (pos 1) (pos 3)), refused 32 2) ∷
     -- S10, S11; then start, kept and the ranking, each in turn
     (lassoTold S10-loop S10, done) ∷
-    (exclusionTold S10-loop (record { q = 1; U = pos 0 ∷ pos 0 ∷ []; «V» = pos 0 ∷ pos 0 ∷ []; W = pos 0 ∷ pos 0 ∷ [] }), done) ∷
-    (lassoTold S10-loop (lasso (row (pos 1 ∷ pos 0 ∷ []) (pos 0 ∷ negsuc 0 ∷ []) (negsuc 0) ∷ []) (negsuc 0) 1 (1 ∷ []) 1 (0 ∷ 0 ∷ 1 ∷ []) 1 S10-ranking), refused 41 0) ∷
+    (exclusionTold S10-loop (record { q = 1; U = pos 0 ∷ pos 0 ∷ []; «V» = pos 0 ∷ pos 0 ∷ []; W = pos 0 ∷ pos 0 ∷ [] }), done) ∷ (
+      lassoTold S10-loop (lasso (row (pos 1 ∷ pos 0 ∷ []) (pos 0 ∷ negsuc 0 ∷ []) (negsuc 0) ∷ []) (negsuc 0) 1 (1 ∷ []) 1 (0 ∷ 0 ∷ 1 ∷ []) 1 S10-ranking),
+      refused 41 0,
+    ) ∷
     (lassoTold S10-loop (lasso S10-stem (negsuc 0) 1 (0 ∷ []) 1 (0 ∷ 0 ∷ 1 ∷ []) 1 S10-ranking), refused 42 1) ∷
     (lassoTold S10-loop (lasso S10-stem (negsuc 1) 1 (1 ∷ []) 1 (0 ∷ 0 ∷ 1 ∷ []) 1 S10-ranking), refused 43 0) ∷
     (lassoTold S10-loop (lasso S10-stem (negsuc 0) 1 (1 ∷ []) 1 (0 ∷ 0 ∷ 1 ∷ []) 0 S10-ranking), refused 44 1) ∷
@@ -52,8 +58,10 @@ told =
           (over 2 (row (pos 0 ∷ pos 1 ∷ []) (pos 0 ∷ negsuc 0 ∷ []) (pos 1) ∷ []))
           (lasso S10-stem (negsuc 0) 1 (1 ∷ []) 1 (1 ∷ []) 1 (ranking (0 ∷ 0 ∷ []) (0 ∷ 0 ∷ []))),
       refused 46 0,
+    ) ∷ (
+      lassoTold S10-loop (lasso S10-stem (negsuc 0) 1 (1 ∷ []) 1 (0 ∷ 0 ∷ 1 ∷ []) 1 (ranking (1 ∷ 0 ∷ 0 ∷ 0 ∷ []) (0 ∷ 1 ∷ 0 ∷ 0 ∷ []))),
+      refused 22 1,
     ) ∷
-    (lassoTold S10-loop (lasso S10-stem (negsuc 0) 1 (1 ∷ []) 1 (0 ∷ 0 ∷ 1 ∷ []) 1 (ranking (1 ∷ 0 ∷ 0 ∷ 0 ∷ []) (0 ∷ 1 ∷ 0 ∷ 0 ∷ []))), refused 22 1) ∷
     -- k and k2 apart: T doubled goes with k doubled, and with no other
     (lassoTold S10-loop (lasso S10-stem (negsuc 0) 2 (2 ∷ []) 1 (0 ∷ 0 ∷ 1 ∷ []) 1 S10-ranking), done) ∷
     (lassoTold S10-loop (lasso S10-stem (negsuc 0) 1 (2 ∷ []) 2 (0 ∷ 0 ∷ 1 ∷ []) 1 S10-ranking), refused 42 1) ∷
@@ -79,21 +87,29 @@ computed =
     -- S1 with S4, S5, S6; S2; S10; S13; S14
     (numbers P S1 (pos 5 ∷ pos 1 ∷ []), record { r = pos 1 ∷ negsuc 0 ∷ []; δ0 = pos 2; δ = pos 1; at-x = 3 }) ∷
     (numbers P S1 (pos 3 ∷ pos 1 ∷ []), record { r = pos 1 ∷ negsuc 0 ∷ []; δ0 = pos 2; δ = pos 1; at-x = 1 }) ∷
-    (numbers P S1 (pos 2 ∷ pos 1 ∷ []), record { r = pos 1 ∷ negsuc 0 ∷ []; δ0 = pos 2; δ = pos 1; at-x = 0 }) ∷
-    (numbers P (ranking (2 ∷ 0 ∷ 0 ∷ []) (0 ∷ 2 ∷ 2 ∷ [])) (pos 5 ∷ pos 1 ∷ []), record { r = pos 2 ∷ negsuc 1 ∷ []; δ0 = pos 4; δ = pos 2; at-x = 3 }) ∷
-    (numbers (longer S10-loop S10) S10-ranking (pos 5 ∷ pos 1 ∷ []), record { r = pos 1 ∷ pos 0 ∷ []; δ0 = pos 0; δ = pos 1; at-x = 6 }) ∷
-    (numbers (over 1 (row (pos 0 ∷ []) (pos 0 ∷ []) (negsuc 0) ∷ [])) (ranking (0 ∷ []) (1 ∷ [])) (pos 7 ∷ []), record { r = pos 0 ∷ []; δ0 = pos 0; δ = pos 1; at-x = 1 }) ∷
+    (numbers P S1 (pos 2 ∷ pos 1 ∷ []), record { r = pos 1 ∷ negsuc 0 ∷ []; δ0 = pos 2; δ = pos 1; at-x = 0 }) ∷ (
+      numbers P (ranking (2 ∷ 0 ∷ 0 ∷ []) (0 ∷ 2 ∷ 2 ∷ [])) (pos 5 ∷ pos 1 ∷ []),
+      record { r = pos 2 ∷ negsuc 1 ∷ []; δ0 = pos 4; δ = pos 2; at-x = 3 },
+    ) ∷
+    (numbers (longer S10-loop S10) S10-ranking (pos 5 ∷ pos 1 ∷ []), record { r = pos 1 ∷ pos 0 ∷ []; δ0 = pos 0; δ = pos 1; at-x = 6 }) ∷ (
+      numbers (over 1 (row (pos 0 ∷ []) (pos 0 ∷ []) (negsuc 0) ∷ [])) (ranking (0 ∷ []) (1 ∷ [])) (pos 7 ∷ []),
+      record { r = pos 0 ∷ []; δ0 = pos 0; δ = pos 1; at-x = 1 },
+    ) ∷
     (numbers S14-loop S14 (negsuc 0 ∷ []), record { r = pos 1 ∷ []; δ0 = pos 0; δ = pos 2; at-x = 0 }) ∷
     (numbers S14-loop S14 (pos 0 ∷ []), record { r = pos 1 ∷ []; δ0 = pos 0; δ = pos 2; at-x = 1 }) ∷
     (numbers S14-loop S14 (pos 1 ∷ []), record { r = pos 1 ∷ []; δ0 = pos 0; δ = pos 2; at-x = 1 }) ∷
     (numbers S14-loop S14 (pos 2 ∷ []), record { r = pos 1 ∷ []; δ0 = pos 0; δ = pos 2; at-x = 2 }) ∷
     -- no two numbers of one form alike
-    (numbers unlike-loop unlike-ranking (pos 9 ∷ pos 4 ∷ []), record { r = pos 23 ∷ negsuc 38 ∷ []; δ0 = pos 14; δ = pos 9; at-x = 5 }) ∷
-    (numbers (longer lasso-loop unlike-lasso) (unlike-lasso .ranking) (negsuc 9 ∷ negsuc 9 ∷ []), record { r = negsuc 5 ∷ negsuc 21 ∷ []; δ0 = pos 73; δ = pos 33; at-x = 7 }) ∷
+    (numbers unlike-loop unlike-ranking (pos 9 ∷ pos 4 ∷ []), record { r = pos 23 ∷ negsuc 38 ∷ []; δ0 = pos 14; δ = pos 9; at-x = 5 }) ∷ (
+      numbers (longer lasso-loop unlike-lasso) (unlike-lasso .ranking) (negsuc 9 ∷ negsuc 9 ∷ []),
+      record { r = negsuc 5 ∷ negsuc 21 ∷ []; δ0 = pos 73; δ = pos 33; at-x = 7 },
+    ) ∷
     []
 
 -- opens all that the tables compute with
 unfoldable pub computing : Unit {0}
 unfolding
-    told computed rankingTold exclusionTold lassoTold rankingTests exclusionTests lassoTests _at-each_unless_ of first tabulate sum dot scale add less rank start fall bound P S1 S7-loop S7 S9-loop S10-loop S10 S14-loop S14 unlike-loop unlike-ranking excluded-loop unlike-exclusion lasso-loop unlike-lasso
+    told computed rankingTold exclusionTold lassoTold rankingTests exclusionTests lassoTests _at-each_unless_ of first tabulate
+    sum dot scale add less rank start fall bound P S1 S7-loop S7 S9-loop S10-loop S10 S14-loop S14 unlike-loop unlike-ranking
+    excluded-loop unlike-exclusion lasso-loop unlike-lasso
 computing = tt

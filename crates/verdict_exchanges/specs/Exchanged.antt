@@ -1,5 +1,6 @@
--- The table of exchanges: for each kind a record in which no two numbers of one form are alike, and the answer of judging for every exchange of two fields of
--- one form, and of two lists of one form and length, rows among them. `tests/exchanges.py` works the lines out from 01 alone and says whether one is left out.
+-- The table of exchanges: for each kind a record in which no two numbers of one form are alike, and the answer of judging for every
+-- exchange of two fields of one form, and of two lists of one form and length, rows among them. `tests/exchanges.py` works the
+-- lines out from 01 alone and says whether one is left out.
 use mathlib.Core.List.{List, [], _∷_}
 use lib.IntN.{ℤ, pos}
 use Rattle.verdict.specs.Samples.{−}

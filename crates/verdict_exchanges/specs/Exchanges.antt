@@ -1,5 +1,5 @@
--- What judging answers when two numbers of a record, or two lists of one length, stand in each other's place. No definition of a layout is used here: an
--- exchange is of bytes at places.
+-- What judging answers when two numbers of a record, or two lists of one length, stand in each other's place. No definition of a
+-- layout is used here: an exchange is of bytes at places.
 use Prim.Native.Nat.{ℕ, _+_, _-_}
 use mathlib.Core.Bool.{Bool, false, _&&_, _||_}
 use mathlib.Core.List.{List, [], _∷_, _++_}
@@ -35,7 +35,8 @@ exchange-of (w bytes-at p and q refused number at place of about) = exchanged w 
 exchange-of (w bytes-at p and q show outcome) = exchanged w p q
 
 unfoldable pub answer-of : Line → Verdict
-answer-of (w bytes-at p and q refused number at place of about) = record { number = number; place = place; about = about; outcome = Nothing }
+answer-of (w bytes-at p and q refused number at place of about) =
+    record { number = number; place = place; about = about; outcome = Nothing }
 answer-of (w bytes-at p and q show outcome) = record { number = 0; place = 0; about = 0; outcome = outcome }
 
 -- judging, with a rank list of two places
