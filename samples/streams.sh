@@ -99,7 +99,7 @@ full_disk() { sheet <"$scratch/longest" >/dev/full; }
 closed_output() { sheet <"$scratch/p" >&-; }
 no_reader() { (trap '' PIPE && sheet <"$scratch/longest" | true); }
 file_size_limit() { (trap '' XFSZ && ulimit -f 8 && sheet <"$scratch/longest"); }
-other_program() { timeout 30 "$programs/edge_cases" >/dev/full; }
+other_program() { timeout 30 "$programs/cases" <"$folder/../crates/cases/stdin" >/dev/full; }
 
 # ---- arguments, with an input that never comes
 

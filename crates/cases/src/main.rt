@@ -325,6 +325,9 @@ fn run_text(text: &[u8]) {
 
 fn main() {
     let mut room = text_room();
-    let size = io::read_full(0, &mut room);
-    run_text(bytes_of(&room, size));
+    let input = streams::read_input(&mut room, b"cases: cannot read standard input");
+    if input.failed {
+        return;
+    }
+    run_text(bytes_of(&room, input.size));
 }
