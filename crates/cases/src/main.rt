@@ -31,6 +31,19 @@ fn text_room() -> [u8; 65536]
     [0; 65536]
 }
 
+// Room for a record, and a list for its values.
+fn record_room() -> [u8; 8192]
+    ensures { λ r. ⌜ 8192 ≡ length r ⌝ }
+{
+    [0; 8192]
+}
+
+fn value_list() -> [i64; 4096]
+    ensures { λ r. ⌜ 4096 ≡ length r ⌝ }
+{
+    [0; 4096]
+}
+
 // The place of a byte from a place on, or the end.
 fn find(text: &[u8], from: usize, wanted: u8) -> usize
     requires { ⌜ from ≤ length (now text) ⌝ }
@@ -196,8 +209,8 @@ fn places_of<'a>(list: &'a mut [i64], size: usize) -> &'a mut [i64]
 fn read_loop(name: &[u8], line: &[u8], from: usize)
     requires { ⌜ from ≤ length (now line) ⌝ }
 {
-    let mut room = [0u8; 8192];
-    let mut values = [0i64; 4096];
+    let mut room = record_room();
+    let mut values = value_list();
     let given = count(line, from);
     let filled = bytes(line, given.at, &mut room);
     let size = filled.count;
@@ -209,8 +222,8 @@ fn read_loop(name: &[u8], line: &[u8], from: usize)
 fn read_certificate(name: &[u8], line: &[u8], from: usize)
     requires { ⌜ from ≤ length (now line) ⌝ }
 {
-    let mut room = [0u8; 8192];
-    let mut values = [0i64; 4096];
+    let mut room = record_room();
+    let mut values = value_list();
     let n = count(line, from);
     let m = count(line, n.at);
     let given = count(line, m.at);
@@ -229,8 +242,8 @@ fn read_certificate(name: &[u8], line: &[u8], from: usize)
 fn write_record(name: &[u8], line: &[u8], from: usize)
     requires { ⌜ from ≤ length (now line) ⌝ }
 {
-    let mut room = [0u8; 8192];
-    let mut values = [0i64; 4096];
+    let mut room = record_room();
+    let mut values = value_list();
     let kind = count(line, from);
     let n = count(line, kind.at);
     let m = count(line, n.at);
@@ -250,8 +263,8 @@ fn write_record(name: &[u8], line: &[u8], from: usize)
 fn judge(name: &[u8], line: &[u8], from: usize)
     requires { ⌜ from ≤ length (now line) ⌝ }
 {
-    let mut looped = [0u8; 8192];
-    let mut certificate = [0u8; 8192];
+    let mut looped = record_room();
+    let mut certificate = record_room();
     let mut rank = [9i64; 32];
     let given = count(line, from);
     let first = bytes(line, given.at, &mut looped);
@@ -270,8 +283,8 @@ fn judge(name: &[u8], line: &[u8], from: usize)
 fn bound(name: &[u8], line: &[u8], from: usize)
     requires { ⌜ from ≤ length (now line) ⌝ }
 {
-    let mut looped = [0u8; 8192];
-    let mut certificate = [0u8; 8192];
+    let mut looped = record_room();
+    let mut certificate = record_room();
     let mut state = [0i64; 32];
     let first = bytes(line, from, &mut looped);
     let second = bytes(line, first.at, &mut certificate);
