@@ -1,12 +1,12 @@
 -- 01's formulas for L are the widths of the fields that follow the length: `length-law`. And how large L can be.
 use mathlib.Core.Path.{_≡_}
 use Prim.Native.Nat.{ℕ, zero, suc, _+_, _*_, _≤_}
-use mathlib.Core.Bool.{true, _||_, false≢true}
+use mathlib.Core.Bool.{true, false≢true}
 use native.Mathlib.Nat.{mul-le-mul}
 use native.Mathlib.Omega.{arith}
 use lib.ListN.{replicate}
 use Rattle.record.specs.Fields.{width, Field, widths}
-use Rattle.record.specs.Layouts.{Kind, loop, ranking, exclusion, lasso, other, is-loop, is-certificate, Counts, variable-count, row-count, entry, right-side, multiplier, scale, direction, row, rowsOf, counts, layout, lengthOf, ahead, listed}
+use Rattle.record.specs.Layouts.{Kind, loop, ranking, exclusion, lasso, other, is-loop, is-known, Counts, variable-count, row-count, entry, right-side, multiplier, scale, direction, row, rowsOf, counts, layout, lengthOf, ahead, listed}
 use Rattle.record.proofs.FieldLaws.{widths-append}
 
 pub widths-replicate : (n : ℕ) (f : Field) → widths (replicate n f) ≡ n * width (f .form)
@@ -24,8 +24,8 @@ widths-rows n zero = omega arith
 widths-rows n (suc m) = rw (widths-append, widths-row n, widths-rows n m) (omega arith)
 
 -- what follows the kind
-pub length-law : (k : Kind) (c : Counts) → (is-loop k || is-certificate k) ≡ true → lengthOf k c ≡ 2 + (widths (ahead k) + widths (listed k c))
-unfolding lengthOf ahead listed is-loop is-certificate counts layout widths width variable-count row-count multiplier scale direction right-side entry
+pub length-law : (k : Kind) (c : Counts) → is-known k ≡ true → lengthOf k c ≡ 2 + (widths (ahead k) + widths (listed k c))
+unfolding lengthOf ahead listed is-loop is-known counts layout widths width variable-count row-count multiplier scale direction right-side entry
 length-law loop c known = rw (widths-rows (c .n) (c .m)) (omega arith)
 length-law ranking c known = simp (widths-append, widths-replicate) (omega arith)
 length-law exclusion c known = simp (widths-append, widths-replicate) (omega arith)

@@ -1,6 +1,7 @@
 pub mod Edges
 pub mod FieldLaws
 pub mod Fits
+pub mod KindLaws
 pub mod Lengths
 pub mod Literals
 pub mod Minus

@@ -15,13 +15,15 @@ use Rattle.endian.proofs.Laws.{bytes-take, bytes-drop, digits-little}
 use Rattle.refusal.specs.Tests.{Told, done, refused, first, number}
 use Rattle.refusal.proofs.TestLaws.{Passes, passes-done, done-passes, append-passes, zero-done, both-true, true-both}
 use Rattle.record.specs.Fields.{Field, width, widths, values, bytesOf, in-range, number as held}
-use Rattle.record.specs.Layouts.{variable-count, row-count, Kind, loop, ranking, exclusion, lasso, other, kindOf, is-loop, is-lasso, is-certificate, counts, layout, lengthOf, ahead, listed}
+use Rattle.record.specs.Layouts.{variable-count, row-count, Kind, loop, ranking, exclusion, lasso, other, kindOf, is-loop, is-lasso, is-known, counts, layout, lengthOf, ahead, listed}
 use Rattle.record.specs.Readers as R
 use Rattle.record.specs.Readers.{Reader, sound, enough-room, reading}
+use Rattle.record.specs.Wants.{kinds-written}
 use Rattle.record.specs.Writers as W
 use Rattle.record.specs.Writers.{Writer, writing}
 use Rattle.record.specs.Ranges.{variables, rows, within}
 use Rattle.record.proofs.FieldLaws.{length-values, bytesOf-append, values-append, bytesOf-values, widths-append}
+use Rattle.record.proofs.KindLaws.{wanted-no-loop, written-known, loop-written, read-written}
 use Rattle.record.proofs.Lengths.{length-law}
 
 -- what a sound record's tests say
@@ -69,12 +71,12 @@ digits-at width bs place all there =
     rw long at (digits-little part (bytes-take width (drop place bs) (bytes-drop place bs all)))
 
 -- n and m of a sound record are within the limits, whether they stand in its body or came as arguments
-pub counts-in-range : (r : Reader) → Sound r → (is-loop (R.kind r) || is-certificate (R.kind r)) ≡ true
+pub counts-in-range : (r : Reader) → Sound r → is-known (R.kind r) ≡ true
     → (within variables (pos (R.counts-read r .n)) && within rows (pos (R.counts-read r .m))) ≡ true
-unfolding R.counts-read R.kind counts is-loop is-certificate in-range values variable-count row-count width held littleAt R.count-list R.arguments-fit
+unfolding R.counts-read R.kind counts is-loop is-known in-range values variable-count row-count width held littleAt R.count-list R.arguments-fit
 counts-in-range r s known = by-kind (kindOf (R.kind-number r)) refl (s .arguments) (s .counts-fit) known
   where
-    by-kind : (k : Kind) → kindOf (R.kind-number r) ≡ k → R.arguments-fit r ≡ true → in-range (counts (R.kind r)) (R.count-list r) ≡ true → (is-loop (R.kind r) || is-certificate (R.kind r)) ≡ true → (within variables (pos (R.counts-read r .n)) && within rows (pos (R.counts-read r .m))) ≡ true
+    by-kind : (k : Kind) → kindOf (R.kind-number r) ≡ k → R.arguments-fit r ≡ true → in-range (counts (R.kind r)) (R.count-list r) ≡ true → is-known (R.kind r) ≡ true → (within variables (pos (R.counts-read r .n)) && within rows (pos (R.counts-read r .m))) ≡ true
     by-kind loop e a c w =
         let n-fits = within variables (pos (littleAt 2 (r .bytes) 6)) in
         let m-fits = within rows (pos (littleAt 2 (r .bytes) 8)) in
@@ -126,10 +128,10 @@ module _ (r : Reader) (room : ℕ) where
   unfolding R.list R.list-start
   list-is = rw drop-drop
 
-  module _ (s : Sound r) (known : (is-loop (R.kind r) || is-certificate (R.kind r)) ≡ true) (all : Bytes (r .bytes)) where
+  module _ (s : Sound r) (written : kinds-written (R.kind r) ≡ true) (all : Bytes (r .bytes)) where
     sizes : R.stated-length r ≡ 2 + (widths (ahead (R.kind r)) + widths (R.fields r))
     unfolding R.fields
-    sizes = s .formula ∙ length-law (R.kind r) (R.counts-read r) known
+    sizes = s .formula ∙ length-law (R.kind r) (R.counts-read r) (written-known _ written)
 
     body-back : bytesOf (ahead (R.kind r)) (W.numbers-ahead (back r room)) ++ bytesOf (W.fields (back r room)) (R.list r) ≡ drop 6 (r .bytes)
     body-back =
@@ -164,9 +166,9 @@ module _ (r : Reader) (room : ℕ) where
     passes-back : 4 + R.stated-length r ≤ room → Passes writing (back r room)
     unfolding writing W.kind R.kind R.kind-number
     passes-back fits = (
-      known,
+      written,
       (
-        counts-in-range r s known,
+        counts-in-range r s (written-known _ written),
         (
           ms-back .0,
           (
@@ -193,14 +195,14 @@ pub record Writes-out (w : Writer) (room bytes : List ℕ) : Type 0 where
   pub answers : W.writes w ≡ record { number = 0; place = 0; written = length bytes }
   pub room-holds : W.room-after w room ≡ bytes ++ drop (length bytes) room
 
-writes-back : (r : Reader) (room : List ℕ) → Sound r → (is-loop (R.kind r) || is-certificate (R.kind r)) ≡ true → Bytes (r .bytes)
+writes-back : (r : Reader) (room : List ℕ) → Sound r → kinds-written (R.kind r) ≡ true → Bytes (r .bytes)
     → length (r .bytes) ≤ length room → Writes-out (back r (length room)) room (r .bytes)
 unfolding W.writes W.room-after W.answer W.filled
-writes-back r room s known all fits =
+writes-back r room s written all fits =
     let w = back r (length room) in
-    let told : first writing w ≡ done = passes-done writing w (passes-back r (length room) s known all (omega (arith, s .whole))) in
+    let told : first writing w ≡ done = passes-done writing w (passes-back r (length room) s written all (omega (arith, s .whole))) in
     let long : 4 + W.length-stated w ≡ length (r .bytes) = ap (λ k. 4 + k) (length-back r (length room) s) ∙ sym (s .whole) in
-    record { answers = rw (told, long); room-holds = rw (told, long, record-back r (length room) s known all) }
+    record { answers = rw (told, long); room-holds = rw (told, long, record-back r (length room) s written all) }
 
 -- what a reading that tells 0 answered
 pub record Has-read (r : Reader) (lent : List ℤ) : Type 0 where
@@ -226,22 +228,6 @@ has-read r lent zero-told =
     number-told done = refl
     number-told (refused k p) = refl
 
-pub certificate-no-loop : (k : Kind) → is-certificate k ≡ true → is-loop k ≡ false
-unfolding is-certificate is-loop
-certificate-no-loop loop h = cc
-certificate-no-loop ranking h = refl
-certificate-no-loop exclusion h = refl
-certificate-no-loop lasso h = refl
-certificate-no-loop other h = refl
-
-pub loop-only : (k : Kind) → is-loop k ≡ true → k ≡ loop
-unfolding is-loop
-loop-only loop h = refl
-loop-only ranking h = cc
-loop-only exclusion h = cc
-loop-only lasso h = cc
-loop-only other h = cc
-
 -- n and m of a certificate are the arguments
 pub arguments-read : (r : Reader) → is-loop (R.kind r) ≡ false → (R.counts-read r .n ≡ r .n) × (R.counts-read r .m ≡ r .m)
 unfolding R.counts-read
@@ -260,8 +246,7 @@ read-then-write-loop bytes lent room all fits zero-told =
     let r = R.loop-reader bytes lent in
     let h = has-read r lent zero-told in
     let loop-kind : is-loop (R.kind r) ≡ true = h .sound-record .wanted in
-    let known : (is-loop (R.kind r) || is-certificate (R.kind r)) ≡ true = rw loop-kind in
-    rw (h .list-told, h .kind-told, h .n-told, h .m-told, loop-kind) (writes-back r room (h .sound-record) known all fits)
+    rw (h .list-told, h .kind-told, h .n-told, h .m-told, loop-kind) (writes-back r room (h .sound-record) (loop-written _ loop-kind) all fits)
 
 -- of a certificate, with the n and m that were arguments
 pub read-then-write-certificate : (bytes : List ℕ) (n m : ℕ) (lent : List ℤ) (room : List ℕ) → Bytes bytes → length bytes ≤ length room
@@ -271,6 +256,5 @@ unfolding R.certificate-reader W.writer
 read-then-write-certificate bytes n m lent room all fits zero-told =
     let r = R.certificate-reader bytes n m lent in
     let h = has-read r lent zero-told in
-    let no-loop : is-loop (R.kind r) ≡ false = certificate-no-loop (R.kind r) (h .sound-record .wanted) in
-    let known : (is-loop (R.kind r) || is-certificate (R.kind r)) ≡ true = rw no-loop (h .sound-record .wanted) in
-    rw (h .list-told, h .kind-told) (rw (arguments-read r no-loop .0, arguments-read r no-loop .1) at (writes-back r room (h .sound-record) known all fits))
+    let no-loop : is-loop (R.kind r) ≡ false = wanted-no-loop _ (R.kind r) (h .sound-record .wanted) in
+    rw (h .list-told, h .kind-told) (rw (arguments-read r no-loop .0, arguments-read r no-loop .1) at (writes-back r room (h .sound-record) (read-written _ (h .sound-record .wanted)) all fits))

@@ -4,31 +4,32 @@ use mathlib.Core.Path.{_≡_, refl, sym, ap, _∙_}
 use Prim.Native.Nat.{ℕ, _+_, _^_, _≤_, _<_}
 use mathlib.Core.Bool.{Bool, true, false, cond, not, _&&_, _||_, false≢true}
 use mathlib.Core.List.{List, [], _++_, append-nil}
-use native.Mathlib.Decide.{decLe}
 use native.Mathlib.Omega.{arith}
-use lib.Dec.{leb, eqb}
+use lib.Dec.{leb}
 use lib.IntN.{ℤ, pos, negsuc, natAbs}
 use lib.Signed.{leZ}
 use lib.ListN.{length, take, drop, getD, length-append}
 use lib.Seq.{take-at, drop-at, drop-drop, take-append-seam}
-use borrow.Author.Tests.{leb-true, eqb-true, ne-eqb, le-leb, eq-eqb}
+use borrow.Author.Tests.{leb-true, eqb-true, le-leb, eq-eqb}
 use Rattle.endian.specs.Numbers.{little, littleAt, digits}
 use Rattle.endian.proofs.Laws.{length-digits, little-digits, littleAt-second}
 use Rattle.refusal.specs.Tests.{Told, done, refused, first, number}
 use Rattle.refusal.proofs.TestLaws.{Passes, passes-done, done-passes, passes-append, zero-done, both-true, true-both}
 use Rattle.record.specs.Fields.{width, widths, values, bytesOf, in-range, number as held}
-use Rattle.record.specs.Layouts.{variable-count, row-count, Kind, loop, ranking, exclusion, lasso, other, kindOf, is-loop, is-lasso, is-certificate, counts, lengthOf, ahead, listed}
+use Rattle.record.specs.Layouts.{variable-count, row-count, Kind, loop, ranking, exclusion, lasso, other, kindOf, is-loop, is-lasso, counts, lengthOf, ahead, listed}
 use Rattle.record.specs.Ranges.{_to_, variables, rows, within}
 use Rattle.record.specs.Readers as R
 use Rattle.record.specs.Readers.{Reader, sound, enough-room, reading}
+use Rattle.record.specs.Wants.{certificates-read, kinds-written}
 use Rattle.record.specs.Writers as W
 use Rattle.record.specs.Writers.{Writer, writing}
 use Rattle.record.proofs.FieldLaws.{widths-append, length-bytesOf, values-bytesOf}
+use Rattle.record.proofs.KindLaws.{no-loop, known-small, written-known, written-read}
 use Rattle.record.proofs.Lengths.{length-law, length-most}
 
 -- what a writer's tests say
 pub record Writable (w : Writer) : Type 0 where
-  pub known : (is-loop (W.kind w) || is-certificate (W.kind w)) ≡ true
+  pub known : kinds-written (W.kind w) ≡ true
   pub n-fits : within variables (pos (w .n)) ≡ true
   pub m-fits : within rows (pos (w .m)) ≡ true
   pub ms-there : (not (is-lasso (W.kind w)) || leb 1 (length (w .list))) ≡ true
@@ -59,15 +60,6 @@ tested true n m n-fits m-fits = refl
 tested false n m n-fits m-fits = true-both _ _ n-fits m-fits
 
 -- ---- sizes
-
--- a known kind is a small number
-known-small : (k : ℕ) → (is-loop (kindOf k) || is-certificate (kindOf k)) ≡ true → k ≤ 4
-unfolding kindOf is-loop is-certificate
-known-small k known =
-    elim (decLe k 4) [
-      | yes h ↦ h
-      | no h ↦ absurd (false≢true (rw (ne-eqb k 1 (λ e. omega arith), ne-eqb k 2 (λ e. omega arith), ne-eqb k 3 (λ e. omega arith), ne-eqb k 4 (λ e. omega arith)) at known))
-    ]
 
 at-most : (least most z : ℕ) → within (least to most) (pos z) ≡ true → z ≤ most
 unfolding within _to_
@@ -126,7 +118,7 @@ module _ (w : Writer) (s : Writable w) where
   kind-read : littleAt 2 (W.record-bytes w) 4 ≡ w .kind-number
   unfolding W.record-bytes W.kind
   kind-read =
-      let small : w .kind-number < 256 ^ 2 = omega (arith, known-small (w .kind-number) (s .known)) in
+      let small : w .kind-number < 256 ^ 2 = omega (arith, known-small (w .kind-number) (written-known _ (s .known))) in
       littleAt-second 2 (digits 4 (W.length-stated w)) _ 4 0 (omega (arith, length-digits 4 (W.length-stated w)))
       ∙ littleAt-digits 2 (w .kind-number) _ small
 
@@ -166,7 +158,7 @@ module _ (w : Writer) (s : Writable w) where
   bytes-long : length (W.record-bytes w) ≡ 4 + W.length-stated w
   unfolding W.record-bytes W.length-stated W.fields
   bytes-long =
-      let law = length-law (W.kind w) (W.counts-given w) (s .known) in
+      let law = length-law (W.kind w) (W.counts-given w) (written-known _ (s .known)) in
       simp (length-append, length-digits)
       (omega (arith, law, length-bytesOf (ahead (W.kind w)) (W.numbers-ahead w) (ahead-there .0), length-bytesOf (W.fields w) (w .list) (s .right-count)))
 
@@ -232,7 +224,7 @@ module _ (w : Writer) (s : Writable w) where
 
     counts-inside : 2 + widths (counts (W.kind w)) ≤ W.length-stated w
     unfolding W.length-stated W.kind ahead listed is-loop widths
-    counts-inside = by-kind (kindOf (w .kind-number)) refl (length-law (W.kind w) (W.counts-given w) (s .known))
+    counts-inside = by-kind (kindOf (w .kind-number)) refl (length-law (W.kind w) (W.counts-given w) (written-known _ (s .known)))
       where
         by-kind : (k : Kind) → kindOf (w .kind-number) ≡ k → lengthOf (W.kind w) (W.counts-given w) ≡ 2 + (widths (ahead (W.kind w)) + widths (listed (W.kind w) (W.counts-given w))) → 2 + widths (counts (W.kind w)) ≤ W.length-stated w
         by-kind loop e h = rw e (omega (arith, rw e at h))
@@ -321,17 +313,6 @@ has-written w room zero-told =
     number-told done = refl
     number-told (refused k p) = refl
 
--- only kind 1 is a loop
-pub other-kind : (k : ℕ) → (k ≡ 1 → ⊥) → is-loop (kindOf k) ≡ false
-unfolding kindOf is-loop
-other-kind k h = rw (ne-eqb k 1 h) (chosen (eqb k 2) (eqb k 3) (eqb k 4))
-  where
-    chosen : (a b c : Bool) → is-loop (cond a ranking (cond b exclusion (cond c lasso other))) ≡ false
-    chosen true b c = refl
-    chosen false true c = refl
-    chosen false false true = refl
-    chosen false false false = refl
-
 -- of a loop: kind, n, m and values come back
 pub write-then-read-loop : (n m : ℕ) (zs : List ℤ) (room : List ℕ) (lent : List ℤ) → length zs ≤ length lent
     → W.writes (W.writer 1 n m zs room) .number ≡ 0
@@ -347,8 +328,8 @@ pub write-then-read-certificate : (kind n m : ℕ) (zs : List ℤ) (room : List 
     → W.writes (W.writer kind n m zs room) .number ≡ 0
     → Reads-in (R.certificate-reader (take (W.writes (W.writer kind n m zs room) .written) (W.room-after (W.writer kind n m zs room) room)) n m lent) lent kind 0 0 zs
 unfolding W.writer R.certificate-reader W.kind
-write-then-read-certificate kind n m zs room lent no-loop fits zero-told =
+write-then-read-certificate kind n m zs room lent not-one fits zero-told =
     let w = W.writer kind n m zs room in
     let h = has-written w room zero-told in
-    let not-loop : is-loop (kindOf kind) ≡ false = other-kind kind no-loop in
-    rw (h .bytes-told) (rw not-loop at (reads-over w is-certificate lent (h .writable) (rw not-loop at (h .writable .known)) fits))
+    let not-loop : is-loop (kindOf kind) ≡ false = no-loop kind not-one in
+    rw (h .bytes-told) (rw not-loop at (reads-over w certificates-read lent (h .writable) (written-read _ (h .writable .known) not-loop) fits))

@@ -32,12 +32,13 @@ is-lasso exclusion = false
 is-lasso lasso = true
 is-lasso other = false
 
-unfoldable pub is-certificate : Kind → Bool
-is-certificate loop = false
-is-certificate ranking = true
-is-certificate exclusion = true
-is-certificate lasso = true
-is-certificate other = false
+-- "Kind is one of 1, 2, 3 or 4"
+unfoldable pub is-known : Kind → Bool
+is-known loop = true
+is-known ranking = true
+is-known exclusion = true
+is-known lasso = true
+is-known other = false
 
 -- the kinds whose certificates show a rank
 unfoldable pub has-rank : Kind → Bool

@@ -5,4 +5,5 @@ pub mod Layouts
 pub mod Ranges
 pub mod Readers
 pub mod Samples
+pub mod Wants
 pub mod Writers

@@ -10,8 +10,9 @@ use Rattle.endian.specs.Numbers.{littleAt}
 use Rattle.refusal.specs.Tests.{Told, done, refused, Test, _at_unless_, first}
 use Rattle.record.specs.declared.Reading.{Reading}
 use Rattle.record.specs.Fields.{Field, widths, values, in-range, before-fault}
-use Rattle.record.specs.Layouts.{Kind, kindOf, is-loop, is-lasso, is-certificate, Counts, counts, lengthOf, ahead, listed}
+use Rattle.record.specs.Layouts.{Kind, kindOf, is-loop, is-lasso, Counts, counts, lengthOf, ahead, listed}
 use Rattle.record.specs.Ranges.{variables, rows, within}
+use Rattle.record.specs.Wants.{loops-read, certificates-read}
 
 -- what comes to a reader: bytes, the kinds that are wanted, n and m as arguments (of no account to the loop reader), and how
 -- many places the lent list has
@@ -106,13 +107,13 @@ unfoldable pub filled : Told → Reader → List ℤ → List ℤ
 filled done r lent = list r ++ drop (length (list r)) lent
 filled (refused k p) r lent = lent
 
--- ---- "The loop reader wants kind 1, the certificate reader kinds 2 to 4."
+-- ---- the two readers
 
 unfoldable pub loop-reader : List ℕ → List ℤ → Reader
-loop-reader bytes lent = record { bytes = bytes; wants = is-loop; n = 0; m = 0; room = length lent }
+loop-reader bytes lent = record { bytes = bytes; wants = loops-read; n = 0; m = 0; room = length lent }
 
 unfoldable pub certificate-reader : List ℕ → ℕ → ℕ → List ℤ → Reader
-certificate-reader bytes n m lent = record { bytes = bytes; wants = is-certificate; n = n; m = m; room = length lent }
+certificate-reader bytes n m lent = record { bytes = bytes; wants = certificates-read; n = n; m = m; room = length lent }
 
 -- what a reader answers, and what the lent list holds afterwards
 unfoldable pub reads : Reader → Reading

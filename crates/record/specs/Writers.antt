@@ -11,8 +11,9 @@ use Rattle.endian.specs.Numbers.{digits}
 use Rattle.refusal.specs.Tests.{Told, done, refused, Test, _at_unless_, first}
 use Rattle.record.specs.declared.Writing.{Writing}
 use Rattle.record.specs.Fields.{Field, widths, bytesOf, in-range, before-fault}
-use Rattle.record.specs.Layouts.{Kind, kindOf, is-loop, is-lasso, is-certificate, Counts, counts, lengthOf, ahead, listed}
+use Rattle.record.specs.Layouts.{Kind, kindOf, is-loop, is-lasso, Counts, counts, lengthOf, ahead, listed}
 use Rattle.record.specs.Ranges.{variables, rows, within}
+use Rattle.record.specs.Wants.{kinds-written}
 
 -- what comes to a writer: a kind number, n, m, the list of values, and how many bytes the room has
 pub record Writer : Type 0 where
@@ -61,7 +62,7 @@ argument-place w = cond (is-loop (kind w)) (6 + before-fault (counts (kind w)) (
 
 unfoldable pub writing : List (Test Writer)
 writing =
-    (4 at (λ w. 4) unless λ w. is-loop (kind w) || is-certificate (kind w))
+    (4 at (λ w. 4) unless λ w. kinds-written (kind w))
     ∷ (5 at (λ w. argument-place w) unless λ w. within variables (pos (w .n)) && within rows (pos (w .m)))
     ∷ (12 at (λ w. 1) unless λ w. not (is-lasso (kind w)) || leb 1 (length (w .list)))
     ∷ (5 at (λ w. 6) unless λ w. not (is-lasso (kind w)) || within rows (ms-given w))

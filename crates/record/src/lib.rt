@@ -1,4 +1,11 @@
-// Records on file: what a reading and a writing answer.
+// Records on file: which kinds a call wants, and what a reading and a writing answer.
+
+// The kinds of certificate that a call wants, 2 to 4; any other kind gives 4.
+pub struct Wanted {
+    pub ranking: bool,
+    pub exclusion: bool,
+    pub lasso: bool,
+}
 
 // A reading's answer. On a refusal all but number and place are 0.
 pub struct Reading {

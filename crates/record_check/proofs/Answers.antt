@@ -3,23 +3,23 @@
 -- `loop-any-room` and `certificate-any-room` carry an answer over to a reader that has a list.
 use mathlib.Core.Path.{_≡_, refl, sym, ap, _∙_}
 use Prim.Native.Nat.{ℕ, _≤_}
-use mathlib.Core.Bool.{Bool, true, _&&_}
-use mathlib.Core.List.{List, [], _∷_}
+use mathlib.Core.Bool.{true, _&&_}
+use mathlib.Core.List.{List, []}
 use native.Mathlib.Omega.{arith}
 use lib.IntN.{ℤ, pos}
 use lib.ListN.{length}
 use lib.Seq.{drop-drop}
 use Rattle.endian.specs.Numbers.{littleAt}
-use Rattle.refusal.specs.Tests.{Told, done, refused, Test, _at_unless_, first, number as number-of}
-use Rattle.refusal.proofs.TestLaws.{either, passed, failed, zero-done, both-true}
+use Rattle.refusal.specs.Tests.{Told, done, refused, first, number as number-of}
+use Rattle.refusal.proofs.TestLaws.{zero-done, both-true}
 use Rattle.record.specs.Fields.{width, number, values, in-range}
-use Rattle.record.specs.Layouts.{Kind, loop, ranking, exclusion, lasso, other, kindOf, is-loop, is-lasso, is-certificate, has-rank, variable-count, row-count, counts}
+use Rattle.record.specs.Layouts.{Kind, loop, ranking, exclusion, lasso, other, is-loop, is-lasso, variable-count, row-count, counts}
 use Rattle.record.specs.Ranges.{variables, rows, within}
 use Rattle.record.specs.Readers.{Reader, stated-length, kind-number, kind, counts-read, fields, list-start, count-list, list, arguments-fit, sound, loop-reader, certificate-reader}
 use Rattle.record.proofs.ReadThenWrite.{Sound, sound-says}
 use Rattle.record_fields.proofs.Fits.{variables-most, rows-most, arguments-most}
 use Rattle.record_check.specs.declared.Checked.{Checked}
-use Rattle.record_check.specs.Checks.{checked, checks, ranked-reader}
+use Rattle.record_check.specs.Checks.{checked, checks, certificate-check}
 
 module _ (r : Reader) (v : Checked) (is : v ≡ checks r) where
   number-told : (t : Told) → number-of t ≡ checked t r .number
@@ -81,40 +81,7 @@ pub loop-any-room : (bytes : List ℕ) (lent : List ℤ) → checks (loop-reader
 unfolding other-room loop-reader
 loop-any-room bytes lent = any-room (loop-reader bytes []) (length lent)
 
-pub certificate-any-room : (bytes : List ℕ) (n m : ℕ) (lent : List ℤ) → checks (certificate-reader bytes n m []) ≡ checks (certificate-reader bytes n m lent)
-unfolding other-room certificate-reader
-certificate-any-room bytes n m lent = any-room (certificate-reader bytes n m []) (length lent)
-
--- a check's answer goes by what is wanted of the record's own kind alone
-other-wants : Reader → (Kind → Bool) → Reader
-other-wants r wants = record { bytes = r .bytes; wants = wants; n = r .n; m = r .m; room = r .room }
-
--- each test says the same of i and of j
-abbrev Alike : List (Test Reader) → Reader → Reader → Type 0
-Alike [] i j = Unit {0}
-Alike ((k at p unless t) ∷ ts) i j = (t i ≡ t j) × (p i ≡ p j) × Alike ts i j
-
-first-alike : (ts : List (Test Reader)) (i j : Reader) → Alike ts i j → first ts i ≡ first ts j
-unfolding first
-first-alike [] i j h = refl
-first-alike ((k at p unless t) ∷ ts) i j h =
-    either (t j) (λ e. passed k p t ts i (h .0 ∙ e) ∙ first-alike ts i j (h .2) ∙ sym (passed k p t ts j e))
-    (λ e. failed k p t ts i (h .0 ∙ e) ∙ ap (refused k) (h .1) ∙ sym (failed k p t ts j e))
-
-any-wants : (r : Reader) (wants : Kind → Bool) → (r .wants) (kind r) ≡ wants (kind r) → checks r ≡ checks (other-wants r wants)
-unfolding other-wants checks checked sound stated-length kind-number kind counts-read fields list-start count-list list arguments-fit
-any-wants r wants same = ap (λ t. checked t r) told ∙ by-told (first sound (other-wants r wants))
-  where
-    told : first sound r ≡ first sound (other-wants r wants)
-    told =
-        first-alike sound r (other-wants r wants)
-        (refl, refl, (refl, refl, (refl, refl, (refl, refl, (same, refl, (refl, refl, (refl, refl, (refl, refl, (refl, refl, (refl, refl, tt))))))))))
-
-    by-told : (t : Told) → checked t r ≡ checked t (other-wants r wants)
-    by-told done = refl
-    by-told (refused k p) = refl
-
-pub ranked-too : (bytes : List ℕ) (n m : ℕ) → is-certificate (kindOf (littleAt 2 bytes 4)) ≡ has-rank (kindOf (littleAt 2 bytes 4))
-    → checks (certificate-reader bytes n m []) ≡ checks (ranked-reader bytes n m)
-unfolding other-wants certificate-reader ranked-reader kind kind-number
-ranked-too bytes n m same = any-wants (certificate-reader bytes n m []) has-rank same
+pub certificate-any-room : (bytes : List ℕ) (n m : ℕ) (lent : List ℤ)
+    → checks (certificate-check (record { ranking = true; exclusion = true; lasso = true }) bytes n m) ≡ checks (certificate-reader bytes n m lent)
+unfolding other-room certificate-check certificate-reader
+certificate-any-room bytes n m lent = any-room (certificate-check (record { ranking = true; exclusion = true; lasso = true }) bytes n m) (length lent)

@@ -1,3 +1,6 @@
-pub mod Ways
+pub mod FrameWays
+pub mod BodyWays
+pub mod LoopWays
+pub mod CertificateWays
+pub mod LassoWays
 pub mod Answers
-pub mod Ranked

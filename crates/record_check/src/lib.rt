@@ -3,8 +3,11 @@ ghost use mathlib.Core.Path.{_≡_};
 ghost use mathlib.Core.List.{[]};
 ghost use Rattle.endian.specs.Numbers.{littleAt};
 ghost use Rattle.refusal.specs.Tests.{first};
-ghost use Rattle.record.specs.Readers.{loop-reader, certificate-reader};
-ghost use Rattle.record_check.specs.Checks.{ranked-reader, refusal, framing, framed, Framed, ended, checks};
+ghost use Rattle.record.specs.Layouts.{ranking, exclusion, lasso, kindOf};
+ghost use Rattle.record.specs.Readers.{loop-reader};
+ghost use Rattle.record.specs.Wants.{wants-of};
+ghost use Rattle.record_check.specs.Checks.{refusal, checks, certificate-check, framing, framed, Framed, Opened, Answers, ended};
+use record::Wanted;
 
 // What a check answers: on a sound record its kind and counts, and number 0; on a refusal all but number and place are 0.
 pub struct Checked {
@@ -93,12 +96,9 @@ fn loop_record(bytes: &[u8]) -> Checked
 }
 
 fn ranking_record(bytes: &[u8], n: usize, m: usize) -> Checked
-    requires { ⌜ Framed (now bytes) ⌝ ∗ ⌜ littleAt 2 (now bytes) 4 ≡ 2 ⌝ }
-    ensures { λ r. ⌜ r ≡ checks (certificate-reader (now (bytes .entry)) n m []) ⌝ }
+    requires { ⌜ Opened (now bytes) 2 n m ⌝ }
+    ensures { λ r. ⌜ Answers ranking (now (bytes .entry)) n m r ⌝ }
 {
-    if !record_faults::arguments_fit(n, m) {
-        return refused(5, 0);
-    }
     let end = bytes.len();
     if end != 6 + 4 * m {
         return refused(3, 0);
@@ -114,12 +114,9 @@ fn ranking_record(bytes: &[u8], n: usize, m: usize) -> Checked
 }
 
 fn exclusion_record(bytes: &[u8], n: usize, m: usize) -> Checked
-    requires { ⌜ Framed (now bytes) ⌝ ∗ ⌜ littleAt 2 (now bytes) 4 ≡ 3 ⌝ }
-    ensures { λ r. ⌜ r ≡ checks (certificate-reader (now (bytes .entry)) n m []) ⌝ }
+    requires { ⌜ Opened (now bytes) 3 n m ⌝ }
+    ensures { λ r. ⌜ Answers exclusion (now (bytes .entry)) n m r ⌝ }
 {
-    if !record_faults::arguments_fit(n, m) {
-        return refused(5, 0);
-    }
     let end = bytes.len();
     if end != 8 + 12 * n {
         return refused(3, 0);
@@ -128,12 +125,9 @@ fn exclusion_record(bytes: &[u8], n: usize, m: usize) -> Checked
 }
 
 fn lasso_record(bytes: &[u8], n: usize, m: usize) -> Checked
-    requires { ⌜ Framed (now bytes) ⌝ ∗ ⌜ littleAt 2 (now bytes) 4 ≡ 4 ⌝ }
-    ensures { λ r. ⌜ r ≡ checks (certificate-reader (now (bytes .entry)) n m []) ⌝ }
+    requires { ⌜ Opened (now bytes) 4 n m ⌝ }
+    ensures { λ r. ⌜ Answers lasso (now (bytes .entry)) n m r ⌝ }
 {
-    if !record_faults::arguments_fit(n, m) {
-        return refused(5, 0);
-    }
     let end = bytes.len();
     if end < 8 {
         return refused(3, 0);
@@ -171,32 +165,35 @@ pub fn check_loop(bytes: &[u8]) -> Checked
     }
 }
 
-// Whether bytes are a sound certificate record for a loop over n variables with m rows.
-pub fn check_certificate(bytes: &[u8], n: usize, m: usize) -> Checked
-    ensures { λ r. ⌜ r ≡ checks (certificate-reader (now (bytes .entry)) n m []) ⌝ }
+fn wants(wanted: Wanted, kind: usize) -> bool
+    ensures { λ r. ⌜ r ≡ wants-of wanted (kindOf kind) ⌝ }
 {
-    let head = frame(bytes);
-    if head.number != 0 {
-        return refused(head.number, head.place);
-    }
-    match endian::u16_at(bytes, 4) {
-        2 => ranking_record(bytes, n, m),
-        3 => exclusion_record(bytes, n, m),
-        4 => lasso_record(bytes, n, m),
-        _ => refused(4, 4),
+    match kind {
+        2 => wanted.ranking,
+        3 => wanted.exclusion,
+        4 => wanted.lasso,
+        _ => false,
     }
 }
 
-// Checks a certificate's bytes that are to have a rank: kind 2 or 4.
-pub fn check_ranked(bytes: &[u8], n: usize, m: usize) -> Checked
-    ensures { λ r. ⌜ r ≡ checks (ranked-reader (now (bytes .entry)) n m) ⌝ }
+// Whether bytes are a sound certificate record, of a kind that is wanted, for a loop over n variables with m rows.
+pub fn check_certificate(bytes: &[u8], n: usize, m: usize, wanted: Wanted) -> Checked
+    ensures { λ r. ⌜ r ≡ checks (certificate-check wanted (now (bytes .entry)) n m) ⌝ }
 {
     let head = frame(bytes);
     if head.number != 0 {
         return refused(head.number, head.place);
     }
-    match endian::u16_at(bytes, 4) {
+    let kind = endian::u16_at(bytes, 4);
+    if !wants(wanted, kind) {
+        return refused(4, 4);
+    }
+    if !record_faults::arguments_fit(n, m) {
+        return refused(5, 0);
+    }
+    match kind {
         2 => ranking_record(bytes, n, m),
+        3 => exclusion_record(bytes, n, m),
         4 => lasso_record(bytes, n, m),
         _ => refused(4, 4),
     }

@@ -2,14 +2,15 @@
 -- `says` what number 0 means.
 use mathlib.Core.Path.{_≡_, refl, sym, ap, _∙_}
 use Prim.Native.Nat.{_≤_}
-use mathlib.Core.Bool.{true, _||_}
+use mathlib.Core.Bool.{true}
 use lib.ListN.{length, drop}
 use borrow.Author.Tests.{eqb-true}
 use Rattle.refusal.specs.Tests.{Told, done, refused, first}
 use Rattle.refusal.proofs.TestLaws.{passes-done, done-passes, append-passes, zero-done}
 use Rattle.record.specs.Fields.{in-range}
-use Rattle.record.specs.Layouts.{is-loop, is-certificate}
+use Rattle.record.specs.Layouts.{is-known}
 use Rattle.record.specs.Writers.{Writer, kind, counts-given, fields, writing}
+use Rattle.record.proofs.KindLaws.{written-known}
 use Rattle.record_fields.specs.Runs.{value-count}
 use Rattle.record_fields.proofs.Parts.{count-law}
 use Rattle.record_given.specs.declared.Given.{Given}
@@ -18,7 +19,7 @@ use Rattle.record_given.proofs.Ways.{number-told, counts-small}
 
 -- what came to a writer makes a record
 pub record Settled (w : Writer) (v : Given) : Type 0 where
-  pub known : (is-loop (kind w) || is-certificate (kind w)) ≡ true
+  pub known : is-known (kind w) ≡ true
   pub variables : w .n ≤ 16
   pub rows : w .m ≤ 64
   pub stem-rows : v .ms ≤ 64
@@ -48,7 +49,7 @@ module _ (w : Writer) (v : Given) (is : v ≡ settled w) where
       let counts-are : record { n = w .n; m = w .m; ms = v .ms } ≡ counts-given w =
       ap (λ (x : Given). record { n = w .n; m = w .m; ms = x .ms }) (is ∙ ap (λ t. given t w) told) in
       record {
-        known = all .0;
+        known = written-known (kind w) (all .0);
         variables = small .0;
         rows = small .1;
         stem-rows = rw (ap (λ x. x .ms) counts-are) (small .2);

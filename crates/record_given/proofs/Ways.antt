@@ -1,7 +1,7 @@
 -- The ways through the order for a writing, over plain numbers, up to the room: what is answered at each return.
 use mathlib.Core.Path.{_≡_, refl, sym, ap, _∙_}
 use Prim.Native.Nat.{ℕ, _+_, _≤_, _<_}
-use mathlib.Core.Bool.{true, false, _&&_, _||_}
+use mathlib.Core.Bool.{true, false, _&&_}
 use mathlib.Core.List.{List, [], _∷_}
 use native.Mathlib.Omega.{arith}
 use lib.IntN.{ℤ, pos, natAbs}
@@ -10,11 +10,12 @@ use borrow.Author.Tests.{le-leb, lt-leb, eq-eqb, ne-eqb}
 use Rattle.refusal.specs.Tests.{Told, done, refused, first, number as number-of}
 use Rattle.refusal.proofs.TestLaws.{either, passed, failed, passes-done, done-passes, first-then, first-told, zero-done}
 use Rattle.record.specs.Fields.{width, widths}
-use Rattle.record.specs.Layouts.{kindOf, is-loop, is-lasso, is-certificate, variable-count, row-count, counts, ahead}
+use Rattle.record.specs.Layouts.{kindOf, is-loop, is-lasso, is-known, variable-count, row-count, counts, ahead}
 use Rattle.record.specs.Ranges.{variables, rows, within}
 use Rattle.record.specs.Writers.{Writer, kind, ms-given, counts-given, fields, length-stated, numbers-ahead, argument-place, writing, writer}
+use Rattle.record.specs.Wants.{kinds-written}
+use Rattle.record.proofs.KindLaws.{written-known}
 use Rattle.record.proofs.Lengths.{length-law}
-use Rattle.record.proofs.ReadThenWrite.{certificate-no-loop}
 use Rattle.record_fields.specs.Runs.{value-count, list-fault}
 use Rattle.record_fields.proofs.Faults.{before-next, before-here}
 use Rattle.record_fields.proofs.Fits.{arguments-most, rows-cast}
@@ -30,19 +31,19 @@ module _ (w : Writer) where
   unfolding counted given
   tells h = rw h
 
-  pub unknown : (is-loop (kind w) || is-certificate (kind w)) ≡ false → refusal 4 4 ≡ counted w
+  pub unknown : kinds-written (kind w) ≡ false → refusal 4 4 ≡ counted w
   unfolding counting writing
   unknown h = tells (failed _ _ _ _ w h)
 
-  module _ (known : (is-loop (kind w) || is-certificate (kind w)) ≡ true) where
+  module _ (written : kinds-written (kind w) ≡ true) where
     pub bad-arguments : (within variables (pos (w .n)) && within rows (pos (w .m))) ≡ false → refusal 5 (argument-place w) ≡ counted w
     unfolding counting writing
-    bad-arguments h = tells (passed _ _ _ _ w known ∙ failed _ _ _ _ w h)
+    bad-arguments h = tells (passed _ _ _ _ w written ∙ failed _ _ _ _ w h)
 
     module _ (fit : (within variables (pos (w .n)) && within rows (pos (w .m))) ≡ true) where
       past-arguments : first counting w ≡ first (drop 2 counting) w
       unfolding counting writing
-      past-arguments = passed _ _ _ _ w known ∙ passed _ _ _ _ w fit
+      past-arguments = passed _ _ _ _ w written ∙ passed _ _ _ _ w fit
 
       pub plain-counted : is-lasso (kind w) ≡ false → refusal 0 0 ≡ counted w
       unfolding counting writing counted given counts-given
@@ -71,34 +72,31 @@ module _ (n m : ℕ) (zs : List ℤ) where
   a-loop : Writer
   a-loop = writer 1 n m zs []
 
-  loop-known : (is-loop (kind a-loop) || is-certificate (kind a-loop)) ≡ true
-  unfolding a-loop writer kind kindOf is-loop is-certificate
-  loop-known = refl
+  a-loop-written : kinds-written (kind a-loop) ≡ true
+  unfolding a-loop writer kind kindOf kinds-written
+  a-loop-written = refl
 
   pub loop-n : within variables (pos n) ≡ false → refusal 5 6 ≡ counted (writer 1 n m zs [])
   unfolding a-loop writer kind kindOf is-loop argument-place numbers-ahead counts variable-count
   loop-n h =
-      rw (before-here variable-count (row-count ∷ []) (pos n) (pos m ∷ []) h) at (bad-arguments a-loop loop-known (rw h))
+      rw (before-here variable-count (row-count ∷ []) (pos n) (pos m ∷ []) h) at (bad-arguments a-loop a-loop-written (rw h))
 
   module _ (n-fits : within variables (pos n) ≡ true) where
     pub loop-m : within rows (pos m) ≡ false → refusal 5 8 ≡ counted (writer 1 n m zs [])
     unfolding a-loop writer kind kindOf is-loop argument-place numbers-ahead counts variable-count row-count width
     loop-m h =
         rw (before-next variable-count (row-count ∷ []) (pos n) (pos m ∷ []) n-fits, before-here row-count [] (pos m) [] h) at
-        (bad-arguments a-loop loop-known (rw (n-fits, h)))
+        (bad-arguments a-loop a-loop-written (rw (n-fits, h)))
 
     pub loop-counted : within rows (pos m) ≡ true → refusal 0 0 ≡ counted (writer 1 n m zs [])
     unfolding a-loop writer kind kindOf is-lasso
-    loop-counted h = plain-counted a-loop loop-known (rw (n-fits, h)) refl
+    loop-counted h = plain-counted a-loop a-loop-written (rw (n-fits, h)) refl
 
 -- a certificate: n and m have none
-module _ (w : Writer) (certificate : is-certificate (kind w) ≡ true) where
-  pub certificate-known : (is-loop (kind w) || is-certificate (kind w)) ≡ true
-  certificate-known = rw (certificate-no-loop (kind w) certificate, certificate)
-
-  pub certificate-arguments : (within variables (pos (w .n)) && within rows (pos (w .m))) ≡ false → refusal 5 0 ≡ counted w
-  unfolding argument-place
-  certificate-arguments h = rw (certificate-no-loop (kind w) certificate) at (bad-arguments w certificate-known h)
+pub certificate-arguments : (w : Writer) → kinds-written (kind w) ≡ true → is-loop (kind w) ≡ false
+    → (within variables (pos (w .n)) && within rows (pos (w .m))) ≡ false → refusal 5 0 ≡ counted w
+unfolding argument-place
+certificate-arguments w written no-loop h = rw no-loop at (bad-arguments w written h)
 
 -- ---- the list
 
@@ -134,9 +132,9 @@ module _ (w : Writer) where
     counts-told told = ap (λ (x : Given). record { n = w .n; m = w .m; ms = x .ms }) (counted-is told)
 
   module _ (told : first counting w ≡ done) where
-    pub known-kind : (is-loop (kind w) || is-certificate (kind w)) ≡ true
+    known-kind : is-known (kind w) ≡ true
     unfolding counting writing
-    known-kind = done-passes counting w told .0
+    known-kind = written-known (kind w) (done-passes counting w told .0)
 
     pub counts-small : (w .n ≤ 16) × (w .m ≤ 64) × (counts-given w .ms ≤ 64)
     unfolding counting writing counts-given

@@ -3,7 +3,8 @@ ghost use mathlib.Core.Path.{_≡_};
 ghost use mathlib.Core.Bool.{true, false};
 ghost use mathlib.Core.List.{List, []};
 ghost use lib.IntN.{ℤ};
-ghost use Rattle.record.specs.Layouts.{is-lasso, is-certificate};
+ghost use Rattle.record.specs.Layouts.{is-loop, is-lasso};
+ghost use Rattle.record.specs.Wants.{kinds-written};
 ghost use Rattle.record.specs.Writers.{Writer, kind as kind-of, writer};
 ghost use Rattle.record_given.specs.Settled.{refusal, counted, settled};
 
@@ -41,7 +42,7 @@ fn loop_counts(n: usize, m: usize) -> Given
 
 // A certificate with no count in its body.
 fn plain_counts(n: usize, m: usize) -> Given
-    ensures { λ r. ⌜ ((w : Writer) → w .n ≡ n → w .m ≡ m → is-certificate (kind-of w) ≡ true → is-lasso (kind-of w) ≡ false → r ≡ counted w) ⌝ }
+    ensures { λ r. ⌜ ((w : Writer) → w .n ≡ n → w .m ≡ m → kinds-written (kind-of w) ≡ true → is-loop (kind-of w) ≡ false → is-lasso (kind-of w) ≡ false → r ≡ counted w) ⌝ }
 {
     if record_faults::arguments_fit(n, m) {
         refused(0, 0)

@@ -1,6 +1,6 @@
 -- Unpacking the record that a reader's check answered for is what the reader answers and what it leaves in the list.
 use mathlib.Core.Path.{_≡_, refl, sym, _∙_}
-use Prim.Native.Nat.{ℕ, _+_, _≤_, _<_}
+use Prim.Native.Nat.{ℕ, _≤_, _<_}
 use mathlib.Core.Bool.{cond}
 use mathlib.Core.List.{List, _++_}
 use native.Mathlib.Omega.{arith}
@@ -15,7 +15,7 @@ use Rattle.record.specs.Layouts.{kindOf, is-loop}
 use Rattle.record.specs.Readers.{Reader, stated-length, kind-number, kind, counts-read, fields, list-start, list, sound, enough-room, reading, answer, filled, reads, fills}
 use Rattle.record.proofs.FieldLaws.{length-values}
 use Rattle.record_fields.specs.Runs.{value-count}
-use Rattle.record_fields.proofs.ByKind.{no-loop}
+use Rattle.record.proofs.KindLaws.{no-loop}
 use Rattle.record_fields.proofs.Copies.{sets-front}
 use Rattle.record_fields.proofs.Parts.{count-law}
 use Rattle.record_check.specs.declared.Checked.{Checked}

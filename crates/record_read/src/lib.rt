@@ -11,6 +11,7 @@ ghost use Rattle.record_fields.specs.Runs.{numbers, linear, weights, value-coun
 ghost use Rattle.record.specs.Readers.{loop-reader, certificate-reader, reads, fills};
 ghost use Rattle.record_read.specs.Unpacks.{refusal, list-of, Sized, unpacked, unpacks};
 use record::Reading;
+use record::Wanted;
 use record_check::Checked;
 
 // ---- runs of numbers of one form, from a place of the bytes on, into the list from an index on
@@ -196,6 +197,11 @@ pub fn read_certificate(bytes: &[u8], n: usize, m: usize, values: &mut [i64]) ->
     ensures { λ r. ⌜ r ≡ reads (certificate-reader (now (bytes .entry)) n m (now (values .entry))) ⌝ }
     ensures { λ r. ⌜ now (values .exit) ≡ fills (certificate-reader (now (bytes .entry)) n m (now (values .entry))) (now (values .entry)) ⌝ }
 {
-    let found = record_check::check_certificate(bytes, n, m);
+    let wanted = Wanted {
+        ranking: true,
+        exclusion: true,
+        lasso: true,
+    };
+    let found = record_check::check_certificate(bytes, n, m, wanted);
     unpack(bytes, found, values)
 }

@@ -1,7 +1,7 @@
 -- The bytes of a body of each kind, as the code writes them; and a part of a room that was lent from a place on.
 use mathlib.Core.Path.{_≡_, refl, sym, ap, _∙_}
-use Prim.Native.Nat.{ℕ, _+_, _*_, _-_, _≤_, _<_}
-use mathlib.Core.Bool.{true, cond, _||_, false≢true}
+use Prim.Native.Nat.{ℕ, _+_, _*_, _-_, _≤_}
+use mathlib.Core.Bool.{true, cond}
 use mathlib.Core.List.{List, [], _∷_, _++_, append-assoc, append-nil}
 use native.Mathlib.Omega.{arith}
 use lib.IntN.{ℤ, pos}
@@ -10,10 +10,9 @@ use lib.Seq.{sets, sets-eq, take-all, drop-drop}
 use borrow.Rule.Slice.PartMut.{putMid}
 use Rattle.endian.specs.Numbers.{digits}
 use Rattle.record.specs.Fields.{u16, stored, widths, bytesOf, in-range}
-use Rattle.record.specs.Layouts.{Kind, loop, ranking, exclusion, lasso, other, kindOf, is-loop, is-certificate, Counts, variable-count, row-count, multiplier, scale, direction, rowsOf, counts, layout, lengthOf, ahead, listed}
+use Rattle.record.specs.Layouts.{Kind, loop, ranking, exclusion, lasso, other, kindOf, is-loop, is-known, Counts, variable-count, row-count, multiplier, scale, direction, rowsOf, counts, layout, lengthOf, ahead, listed}
 use Rattle.record.proofs.Lengths.{length-law}
 use Rattle.record_fields.specs.Runs.{linear, weights, stores, all-held}
-use Rattle.record_fields.proofs.ByKind.{by-kind}
 use Rattle.record_fields.proofs.Copies.{sets-front}
 use Rattle.record_fields.proofs.Parts.{count-law, ranking-is, exclusion-is, lasso-is}
 use Rattle.record_fields.proofs.Stores.{bytes-run, held-run, length-bytes}
@@ -76,16 +75,9 @@ body-widths kind c zs f =
     let rest : length (listed k c) ≤ length zs = omega (arith, count-law k c, f .counted) in
     rw (length-append, length-bytes (ahead k) (cond (is-loop k) (pos (c .n) ∷ pos (c .m) ∷ []) []) front, length-bytes (listed k c) zs rest)
 
-pub body-long : (kind : ℕ) (c : Counts) (zs : List ℤ) → Fitting kind c zs → (is-loop (kindOf kind) || is-certificate (kindOf kind)) ≡ true
+pub body-long : (kind : ℕ) (c : Counts) (zs : List ℤ) → Fitting kind c zs → is-known (kindOf kind) ≡ true
     → 2 + length (body-bytes kind c zs) ≡ lengthOf (kindOf kind) c
 body-long kind c zs f known = omega (arith, body-widths kind c zs f, length-law (kindOf kind) c known)
-
--- a known kind number is small
-pub kind-small : (x : ℕ) → (is-loop (kindOf x) || is-certificate (kindOf x)) ≡ true → x < 65536
-unfolding is-loop is-certificate
-kind-small x =
-    by-kind (λ k. (is-loop k || is-certificate k) ≡ true → x < 65536) x (λ e h. omega arith) (λ e h. omega arith) (λ e h. omega arith) (λ e h. omega arith)
-    (λ h. absurd (false≢true h))
 
 -- the part from a place on, written from its front, is the room written from that place
 pub tail-sets : (room : List ℕ) (place : ℕ) (bytes : List ℕ) {part : List ℕ} → place + length bytes ≤ length room

@@ -12,13 +12,14 @@ use Rattle.refusal.specs.Tests.{done, refused, first}
 use Rattle.refusal.proofs.TestLaws.{passed, failed, passes-done, done-passes, first-then, first-told}
 use Rattle.record.specs.Layouts.{Counts, lengthOf}
 use Rattle.record.specs.Writers.{Writer, kind, fields, length-stated, numbers-ahead, record-bytes, writing, answer, filled, writes, room-after}
+use Rattle.record.proofs.KindLaws.{known-small}
 use Rattle.record.proofs.Lengths.{length-law, length-most}
 use Rattle.record_fields.proofs.Copies.{sets-front}
 use Rattle.record_given.specs.declared.Given.{Given}
 use Rattle.record_given.specs.Settled.{settling, settled}
 use Rattle.record_given.proofs.Answers.{settled-done, settled-refused, says}
 use Rattle.record_write.specs.Bodies.{body-bytes, Ready, refusal}
-use Rattle.record_write.proofs.Bytes.{body-long, kind-small}
+use Rattle.record_write.proofs.Bytes.{body-long}
 
 module _ (w : Writer) (room : List ℕ) (room-is : w .room ≡ length room) (v : Given) (is : v ≡ settled w) where
   refuses : {k p : ℕ} → first writing w ≡ refused k p → (refusal k p ≡ writes w) × (room ≡ room-after w room)
@@ -53,7 +54,7 @@ module _ (w : Writer) (room : List ℕ) (room-is : w .room ≡ length room) (v :
             record {
               fitting = record { variables = s .variables; rows = s .rows; counted = rw (s .counts-are) (s .long); fit = rw (s .counts-are) (s .fit) };
               known = s .known;
-              kind-fits = kind-small (w .kind-number) (s .known);
+              kind-fits = omega (arith, known-small (w .kind-number) (s .known));
               long-is = long-is;
               long-fits = (
                 omega (arith, long-is, length-law (kind w) (record { n = w .n; m = w .m; ms = v .ms }) (s .known)),

@@ -2,9 +2,10 @@
 use mathlib.Core.Path.{sym, _∙_}
 use mathlib.Core.List.{[]}
 use Rattle.record.specs.Readers.{kind-number, kind, loop-reader}
-use Rattle.record_fields.proofs.ByKind.{no-loop}
+use Rattle.record.proofs.KindLaws.{no-loop}
 use Rattle.record_check.specs.Checks.{Framed}
-use Rattle.record_check.proofs.Ways.{frame-only, frame-refuses, frame-passes, unwanted}
+use Rattle.record_check.proofs.FrameWays.{frame-only, frame-refuses, frame-passes}
+use Rattle.record_check.proofs.BodyWays.{unwanted}
 use borrow.Author.Needs.{needs}
 use Rattle.record_check.proofs.check_loop.Statement.{statement}
 use Rattle.record_check.proofs.check_loop.Tie as tie

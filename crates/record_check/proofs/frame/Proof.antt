@@ -3,7 +3,7 @@ use mathlib.Core.Path.{_∙_}
 use mathlib.Core.List.{[]}
 use native.Mathlib.Omega.{arith}
 use Rattle.record.specs.Readers.{stated-length, loop-reader}
-use Rattle.record_check.proofs.Ways.{too-short, too-small, too-few, too-many, just-right}
+use Rattle.record_check.proofs.FrameWays.{too-short, too-small, too-few, too-many, just-right}
 use borrow.Author.Needs.{needs}
 use Rattle.record_check.proofs.frame.Statement.{statement}
 use Rattle.record_check.proofs.frame.Tie as tie

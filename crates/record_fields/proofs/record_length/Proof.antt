@@ -3,7 +3,7 @@ use Prim.Native.Nat.{_+_, _*_, _≤_}
 use native.Mathlib.Nat.{mul-le-mul}
 use native.Mathlib.Omega.{arith}
 use Rattle.record.specs.Layouts.{kindOf, lengthOf}
-use Rattle.record_fields.proofs.ByKind.{other-kind}
+use Rattle.record.proofs.KindLaws.{other-kind}
 use borrow.Author.Needs.{needs}
 use Rattle.record_fields.proofs.record_length.Statement.{statement}
 use Rattle.record_fields.proofs.record_length.Tie as tie

@@ -4,7 +4,7 @@ use native.Mathlib.Nat.{mul-le-mul}
 use native.Mathlib.Omega.{arith}
 use Rattle.record.specs.Layouts.{kindOf}
 use Rattle.record_fields.specs.Runs.{value-count}
-use Rattle.record_fields.proofs.ByKind.{other-kind}
+use Rattle.record.proofs.KindLaws.{other-kind}
 use borrow.Author.Needs.{needs}
 use Rattle.record_fields.proofs.value_count.Statement.{statement}
 use Rattle.record_fields.proofs.value_count.Tie as tie

@@ -1,9 +1,10 @@
 -- `record_given::counts` meets its contract: the kind number decides. Assumes nothing.
 use mathlib.Core.Path.{refl, _∙_}
 use mathlib.Core.List.{[]}
-use Rattle.record.specs.Layouts.{kindOf, is-loop, is-lasso, is-certificate}
+use Rattle.record.specs.Layouts.{kindOf, is-loop, is-lasso}
+use Rattle.record.specs.Wants.{kinds-written}
 use Rattle.record.specs.Writers.{kind, writer}
-use Rattle.record_fields.proofs.ByKind.{other-kind}
+use Rattle.record.proofs.KindLaws.{other-kind}
 use Rattle.record_given.proofs.Ways.{unknown}
 use borrow.Author.Needs.{needs}
 use Rattle.record_given.proofs.counts.Statement.{statement}
@@ -28,22 +29,22 @@ returns : tie.Need-returns
 returns c = rw (c .before .match .keys1) (c .loop-counts .ensures (c .before .before .args .values .now))
 
 returns-2 : tie.Need-returns-2
-unfolding writer kind kindOf is-certificate is-lasso
+unfolding writer kind kindOf kinds-written is-loop is-lasso
 returns-2 c =
     let a = c .before .before .args in
-    rw (c .before .match .keys2) (c .plain-counts .ensures (writer 2 (a .n) (a .m) (a .values .now) []) refl refl refl refl)
+    rw (c .before .match .keys2) (c .plain-counts .ensures (writer 2 (a .n) (a .m) (a .values .now) []) refl refl refl refl refl)
 
 returns-3 : tie.Need-returns-3
-unfolding writer kind kindOf is-certificate is-lasso
+unfolding writer kind kindOf kinds-written is-loop is-lasso
 returns-3 c =
     let a = c .before .before .args in
-    rw (c .before .match .keys3) (c .plain-counts2 .ensures (writer 3 (a .n) (a .m) (a .values .now) []) refl refl refl refl)
+    rw (c .before .match .keys3) (c .plain-counts2 .ensures (writer 3 (a .n) (a .m) (a .values .now) []) refl refl refl refl refl)
 
 returns-4 : tie.Need-returns-4
 returns-4 c = rw (c .before .match .keys4) (c .lasso-counts .ensures)
 
 returns-5 : tie.Need-returns-5
-unfolding writer kind is-loop is-certificate
+unfolding writer kind kinds-written
 returns-5 c =
     let a = c .before .before .args in
     let rest = c .before .match .rest in

@@ -8,11 +8,12 @@ use lib.ListN.{getD}
 use mir.Facts.{toZ-ofZ, fits-of-lt}
 use borrow.Author.Needs.{sfits-of}
 use borrow.Author.Tests.{not-true, not-false}
-use Rattle.record.specs.Layouts.{kindOf, is-lasso, is-certificate}
+use Rattle.record.specs.Layouts.{kindOf, is-loop, is-lasso}
+use Rattle.record.specs.Wants.{kinds-written}
 use Rattle.record.specs.Ranges.{_to_, rows, within}
 use Rattle.record.specs.Writers.{kind, ms-given, writer}
 use Rattle.record_fields.proofs.Fits.{rows-cast}
-use Rattle.record_given.proofs.Ways.{certificate-known, certificate-arguments, no-ms, bad-ms, lasso-counted}
+use Rattle.record_given.proofs.Ways.{certificate-arguments, no-ms, bad-ms, lasso-counted}
 use borrow.Author.Needs.{needs}
 use Rattle.record_given.proofs.lasso_counts.Statement.{statement}
 use Rattle.record_given.proofs.lasso_counts.Tie as tie
@@ -28,20 +29,20 @@ refused-requires : tie.Need-refused-requires
 refused-requires c κs = search needs
 
 returns : tie.Need-returns
-unfolding writer kind kindOf is-certificate
+unfolding writer kind kindOf kinds-written is-loop
 returns c =
     let a = c .before .before .before .args in
-    c .refused .ensures ∙ certificate-arguments (writer 4 (a .n) (a .m) (a .values .now) []) refl (sym (c .before .before .arguments-fit .ensures) ∙ not-true _ (c .before .if1 .taken))
+    c .refused .ensures ∙ certificate-arguments (writer 4 (a .n) (a .m) (a .values .now) []) refl refl (sym (c .before .before .arguments-fit .ensures) ∙ not-true _ (c .before .if1 .taken))
 
 refused-requires-2 : tie.Need-refused-requires-2
 refused-requires-2 c κs = search needs
 
 returns-2 : tie.Need-returns-2
-unfolding writer kind kindOf is-certificate is-lasso
+unfolding writer kind kindOf kinds-written is-lasso
 returns-2 c =
     let a = c .before .before .before .before .args in
     let fit = sym (c .before .before .before .arguments-fit .ensures) ∙ not-false _ (c .before .before .if1 .left) in
-    c .refused2 .ensures ∙ no-ms (writer 4 (a .n) (a .m) (a .values .now) []) (certificate-known (writer 4 (a .n) (a .m) (a .values .now) []) refl) fit refl (c .before .if2 .taken)
+    c .refused2 .ensures ∙ no-ms (writer 4 (a .n) (a .m) (a .values .now) []) refl fit refl (c .before .if2 .taken)
 
 shared-slice-copy-out-between : tie.Need-shared-slice-copy-out-between
 shared-slice-copy-out-between c = search needs
@@ -53,12 +54,12 @@ refused-requires-3 : tie.Need-refused-requires-3
 refused-requires-3 c κs = search needs
 
 returns-3 : tie.Need-returns-3
-unfolding writer kind kindOf is-certificate is-lasso ms-given rows _to_
+unfolding writer kind kindOf kinds-written is-lasso ms-given rows _to_
 returns-3 c =
     let a = c .before .before .before .before .before .before .before .args in
     let fit = sym (c .before .before .before .before .before .before .arguments-fit .ensures) ∙ not-false _ (c .before .before .before .before .before .if1 .left) in
     let out = rw (toZ-ofZ (sfits-of (c .before .before .before .between-arg .given))) at (sym (c .before .before .between .ensures) ∙ not-true _ (c .before .if3 .taken)) in
-    c .refused3 .ensures ∙ bad-ms (writer 4 (a .n) (a .m) (a .values .now) []) (certificate-known (writer 4 (a .n) (a .m) (a .values .now) []) refl) fit refl (c .before .before .before .before .if2 .left) out
+    c .refused3 .ensures ∙ bad-ms (writer 4 (a .n) (a .m) (a .values .now) []) refl fit refl (c .before .before .before .before .if2 .left) out
 
 shared-slice-copy-out-t8 : tie.Need-shared-slice-copy-out-t8
 shared-slice-copy-out-t8 c = search needs
@@ -69,11 +70,11 @@ cast-t6 c =
     rw (toZ-ofZ (sfits-of (c .before .before .before .between-arg .given))) (r .0, fits-of-lt (omega (arith, r .1)))
 
 returns-4 : tie.Need-returns-4
-unfolding writer kind kindOf is-certificate is-lasso ms-given
+unfolding writer kind kindOf kinds-written is-lasso ms-given
 returns-4 c =
     let a = c .before .before .before .before .before .before .before .args in
     let fit = sym (c .before .before .before .before .before .before .arguments-fit .ensures) ∙ not-false _ (c .before .before .before .before .before .if1 .left) in
-    rw (toZ-ofZ (sfits-of (c .before .before .before .between-arg .given))) (lasso-counted (writer 4 (a .n) (a .m) (a .values .now) []) (certificate-known (writer 4 (a .n) (a .m) (a .values .now) []) refl) fit refl (c .before .before .before .before .if2 .left) (ms-fits (c .before)))
+    rw (toZ-ofZ (sfits-of (c .before .before .before .between-arg .given))) (lasso-counted (writer 4 (a .n) (a .m) (a .values .now) []) refl fit refl (c .before .before .before .before .if2 .left) (ms-fits (c .before)))
 
 pub lasso-counts-spec : {M : Type 1} → statement M
 lasso-counts-spec =

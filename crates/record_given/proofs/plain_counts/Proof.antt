@@ -1,6 +1,6 @@
 -- `record_given::plain_counts` meets its contract. Assumes nothing.
 use mathlib.Core.Path.{sym, _∙_}
-use Rattle.record_given.proofs.Ways.{plain-counted, certificate-known, certificate-arguments}
+use Rattle.record_given.proofs.Ways.{plain-counted, certificate-arguments}
 use borrow.Author.Needs.{needs}
 use Rattle.record_given.proofs.plain_counts.Statement.{statement}
 use Rattle.record_given.proofs.plain_counts.Tie as tie
@@ -17,12 +17,12 @@ refused-requires-2 c κs = search needs
 returns : tie.Need-returns
 returns c =
     let fit = sym (c .before .before .arguments-fit .ensures) ∙ c .before .if1 .taken in
-    λ w n-is m-is certificate no-lasso. c .refused .ensures ∙ plain-counted w (certificate-known w certificate) (rw (n-is, m-is) fit) no-lasso
+    λ w n-is m-is written no-loop no-lasso. c .refused .ensures ∙ plain-counted w written (rw (n-is, m-is) fit) no-lasso
 
 returns-2 : tie.Need-returns-2
 returns-2 c =
     let out = sym (c .before .before .arguments-fit .ensures) ∙ c .before .if1 .left in
-    λ w n-is m-is certificate no-lasso. c .refused2 .ensures ∙ certificate-arguments w certificate (rw (n-is, m-is) out)
+    λ w n-is m-is written no-loop no-lasso. c .refused2 .ensures ∙ certificate-arguments w written no-loop (rw (n-is, m-is) out)
 
 pub plain-counts-spec : {M : Type 1} → statement M
 plain-counts-spec =

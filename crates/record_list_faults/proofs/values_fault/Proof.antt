@@ -8,7 +8,7 @@ use Rattle.record.specs.Fields.{width, widths}
 use Rattle.record.specs.Layouts.{kindOf, is-loop, variable-count, row-count, multiplier, counts, layout, lengthOf, ahead, listed}
 use Rattle.record.specs.Ranges.{_to_, multipliers}
 use Rattle.record_fields.specs.Runs.{value-count, list-fault}
-use Rattle.record_fields.proofs.ByKind.{other-kind}
+use Rattle.record.proofs.KindLaws.{other-kind}
 use Rattle.record_fields.proofs.ListFaults.{list-fault-none}
 use Rattle.record_fields.proofs.Parts.{ranking-is, exclusion-is, lasso-is}
 use Rattle.record_list_faults.proofs.values_fault.Statement.{statement}
