@@ -6,14 +6,14 @@ use mathlib.Core.List.{List}
 use lib.IntN.{ℤ}
 use lib.ListN.{length}
 use Rattle.endian.specs.Numbers.{littleAt}
-use Rattle.record.specs.Layouts.{Kind, ranking, exclusion, lasso, is-loop, is-certificate, has-rank}
+use Rattle.record.specs.Layouts.{Kind, ranking, exclusion, lasso, is-loop, has-rank}
 use Rattle.record.specs.Readers.{Reader, counts-read}
 use Rattle.theory.specs.Exclusions.{ExclusionHolds}
 use Rattle.judge_conditions.specs.Decided.{Decides, RankedBy, LassoBy}
 use Rattle.judge_conditions.specs.Held.{loop-held, ranking-held, exclusion-held, lasso-held}
 use Rattle.judge_conditions.specs.declared.Ranked.{Ranked}
 use Rattle.verdict.specs.Contents.{loop-in, ranking-in, exclusion-in, lasso-in}
-use Rattle.verdict.specs.Judging.{Judging, judges, rank-after, judge-of}
+use Rattle.verdict.specs.Judging.{Judging, judges, rank-after, judge-of, certificates-judged}
 use Rattle.verdict.specs.Outcomes.{grade-of}
 use Rattle.verdict.specs.Pairs.{loop-record, certificate-record, kind-of, variables-of}
 use Rattle.verdict.specs.declared.Outcome.the-variants.{Ranking, Exclusion, Lasso}
@@ -48,11 +48,11 @@ module _ (rows : List ℕ) (n m : ℕ) (l : LoopSound rows n m) (certificate : L
   j = judge-of rows certificate lent
 
   -- both records of the judging are sound
-  both : (k : Kind) → CertificateSound is-certificate rows certificate k → Both-sound (j .records)
+  both : (k : Kind) → CertificateSound certificates-judged rows certificate k → Both-sound (j .records)
   unfolding judge-of
   both k c = record { loop-sound = l .told; certificate-sound = c .told }
 
-  kind-told : (k : Kind) → CertificateSound is-certificate rows certificate k → kind-of (j .records) ≡ k
+  kind-told : (k : Kind) → CertificateSound certificates-judged rows certificate k → kind-of (j .records) ≡ k
   unfolding judge-of kind-of
   kind-told k c = c .kind-is
 
@@ -65,7 +65,7 @@ module _ (rows : List ℕ) (n m : ℕ) (l : LoopSound rows n m) (certificate : L
   loop-told = loop-of rows n m l
 
   -- a rank list that is too short, of either kind that has a rank
-  pub short-list : (k : Kind) → has-rank k ≡ true → CertificateSound is-certificate rows certificate k → length lent < n
+  pub short-list : (k : Kind) → has-rank k ≡ true → CertificateSound certificates-judged rows certificate k → length lent < n
       → (refusal-of 0 7 n ≡ judges j) × (lent ≡ rank-after j lent)
   unfolding judge-of
   short-list k ranked c short =
@@ -75,11 +75,11 @@ module _ (rows : List ℕ) (n m : ℕ) (l : LoopSound rows n m) (certificate : L
 
   -- ---- kind 2
 
-  module _ (c : CertificateSound is-certificate rows certificate ranking) (r : Ranked) (after : List ℤ)
+  module _ (c : CertificateSound certificates-judged rows certificate ranking) (r : Ranked) (after : List ℤ)
       (by : RankedBy r (loop-held rows n m) (ranking-held certificate 6 m) lent after) (room : n ≤ length lent) where
     ranking-told : ranking-in (j .records .certificate-is) ≡ ranking-held certificate 6 m
     unfolding judge-of
-    ranking-told = ranking-of rows n m l is-certificate certificate c
+    ranking-told = ranking-of rows n m l certificates-judged certificate c
 
     ranking-room : variables-of (j .records) ≤ j .room
     unfolding judge-of
@@ -112,13 +112,13 @@ module _ (rows : List ℕ) (n m : ℕ) (l : LoopSound rows n m) (certificate : L
 
   -- ---- kind 3
 
-  module _ (c : CertificateSound is-certificate rows certificate exclusion) (holds : Bool)
+  module _ (c : CertificateSound certificates-judged rows certificate exclusion) (holds : Bool)
       (by : Decides holds (ExclusionHolds (loop-held rows n m) (exclusion-held certificate n))) where
     exclusion-told : exclusion-in (j .records .certificate-is) ≡ exclusion-held certificate n
     unfolding judge-of certificate-record is-loop
     exclusion-told =
-        exclusion-is (certificate-record is-certificate (loop-record rows) certificate) (c .kind-is) ∙
-        ap (exclusion-held certificate) (counts-are rows n m l is-certificate certificate exclusion c refl .0)
+        exclusion-is (certificate-record certificates-judged (loop-record rows) certificate) (c .kind-is) ∙
+        ap (exclusion-held certificate) (counts-are rows n m l certificates-judged certificate exclusion c refl .0)
 
     pub exclusion-refused : holds ≡ false → (refusal-of 2 8 0 ≡ judges j) × (lent ≡ rank-after j lent)
     unfolding has-rank
@@ -139,12 +139,12 @@ module _ (rows : List ℕ) (n m : ℕ) (l : LoopSound rows n m) (certificate : L
 
   -- ---- kind 4
 
-  module _ (ms : ℕ) (c : CertificateSound is-certificate rows certificate lasso)
-      (ms-is : ms ≡ counts-read (certificate-record is-certificate (loop-record rows) certificate) .ms) (r : Ranked)
+  module _ (ms : ℕ) (c : CertificateSound certificates-judged rows certificate lasso)
+      (ms-is : ms ≡ counts-read (certificate-record certificates-judged (loop-record rows) certificate) .ms) (r : Ranked)
       (after : List ℤ) (by : LassoBy r (loop-held rows n m) (lasso-held certificate n m ms) lent after) (room : n ≤ length lent) where
     lasso-told : lasso-in (j .records .certificate-is) ≡ lasso-held certificate n m ms
     unfolding judge-of
-    lasso-told = lasso-of rows n m l is-certificate certificate ms c ms-is
+    lasso-told = lasso-of rows n m l certificates-judged certificate ms c ms-is
 
     lasso-room : variables-of (j .records) ≤ j .room
     unfolding judge-of

@@ -1,13 +1,14 @@
 // Judge and bound: whether a certificate's bytes prove what they claim of a loop's bytes. Every input has an answer; a refusal changes nothing that was lent.
 ghost use mathlib.Core.Path.{_≡_};
-ghost use Rattle.record.specs.Layouts.{ranking, exclusion, lasso, is-certificate};
+ghost use Rattle.record.specs.Layouts.{ranking, exclusion, lasso};
 ghost use Rattle.verdict.specs.Outcomes.{grade-of};
-ghost use Rattle.verdict.specs.Judging.{judges, rank-after, judge-of};
+ghost use Rattle.verdict.specs.Judging.{judges, rank-after, judge-of, certificates-judged};
 ghost use lib.IntN.{ℤ};
 ghost use mathlib.Core.List.{List};
 ghost use Rattle.record.specs.Readers.{counts-read};
 ghost use Rattle.verdict.specs.Pairs.{loop-record, certificate-record};
 ghost use Rattle.judge.specs.Told.{LoopSound, CertificateSound, refusal-of, Judged};
+use record::Wanted;
 use verdict::Grade;
 use verdict::Outcome;
 use verdict::Verdict;
@@ -25,7 +26,7 @@ fn refused(about: usize, number: usize, place: usize) -> Verdict
 
 // Kind 2, of sound records.
 fn judge_ranking(rows: &[u8], n: usize, m: usize, certificate: &[u8], rank: &mut [i64]) -> Verdict
-    requires { ⌜ LoopSound (now rows) n m × CertificateSound is-certificate (now rows) (now certificate) ranking ⌝ }
+    requires { ⌜ LoopSound (now rows) n m × CertificateSound certificates-judged (now rows) (now certificate) ranking ⌝ }
     ensures { λ r. ⌜ Judged (now (rows .entry)) (now (certificate .entry)) (now (rank .entry)) r (now (rank .exit)) ⌝ }
 {
     if rank.len() < n {
@@ -48,7 +49,7 @@ fn judge_ranking(rows: &[u8], n: usize, m: usize, certificate: &[u8], rank: &mut
 
 // Kind 3, of sound records. It has no rank, so the answer is the same for every list.
 fn judge_exclusion(rows: &[u8], n: usize, m: usize, certificate: &[u8]) -> Verdict
-    requires { ⌜ LoopSound (now rows) n m × CertificateSound is-certificate (now rows) (now certificate) exclusion ⌝ }
+    requires { ⌜ LoopSound (now rows) n m × CertificateSound certificates-judged (now rows) (now certificate) exclusion ⌝ }
     ensures { λ r. ⌜ ((lent : List ℤ) → Judged (now (rows .entry)) (now (certificate .entry)) lent r lent) ⌝ }
 {
     if !judge_conditions::exclusion(rows, n, m, certificate) {
@@ -83,8 +84,8 @@ fn judge_lasso(
     ms: usize,
     rank: &mut [i64],
 ) -> Verdict
-    requires { ⌜ LoopSound (now rows) n m × CertificateSound is-certificate (now rows) (now certificate) lasso
-        × (ms ≡ counts-read (certificate-record is-certificate (loop-record (now rows)) (now certificate)) .ms) ⌝ }
+    requires { ⌜ LoopSound (now rows) n m × CertificateSound certificates-judged (now rows) (now certificate) lasso
+        × (ms ≡ counts-read (certificate-record certificates-judged (loop-record (now rows)) (now certificate)) .ms) ⌝ }
     ensures { λ r. ⌜ Judged (now (rows .entry)) (now (certificate .entry)) (now (rank .entry)) r (now (rank .exit)) ⌝ }
 {
     if rank.len() < n {
@@ -110,7 +111,12 @@ pub fn judge_sound(rows: &[u8], n: usize, m: usize, certificate: &[u8], rank: &m
     requires { ⌜ LoopSound (now rows) n m ⌝ }
     ensures { λ r. ⌜ Judged (now (rows .entry)) (now (certificate .entry)) (now (rank .entry)) r (now (rank .exit)) ⌝ }
 {
-    let said = record_check::check_certificate(certificate, n, m);
+    let wanted = Wanted {
+        ranking: true,
+        exclusion: true,
+        lasso: true,
+    };
+    let said = record_check::check_certificate(certificate, n, m, wanted);
     if said.number != 0 {
         return refused(2, said.number, said.place);
     }

@@ -11,7 +11,7 @@ use lib.Signed.{leZ, _<ℤ_}
 use Rattle.whole.specs.Sums.{dot, sum, Within}
 use Rattle.whole.proofs.Compare.{true-le}
 use Rattle.whole.proofs.Solve.{v, neg, solve-lt, lt-fact}
-use Rattle.record.specs.Layouts.{Kind, ranking, lasso, is-loop, is-lasso, has-rank}
+use Rattle.record.specs.Layouts.{Kind, ranking, lasso, is-loop, is-lasso}
 use Rattle.record.specs.Readers.{counts-read}
 use Rattle.record.proofs.ReadThenWrite.{sound-says}
 use Rattle.refusal.specs.Tests.{refused, first}
@@ -23,7 +23,7 @@ use Rattle.theory.specs.Rankings as Rankings
 use Rattle.judge_conditions.specs.Decided.{RankedBy, LassoBy}
 use Rattle.judge_conditions.specs.Held.{loop-held, ranking-held, lasso-held}
 use Rattle.judge_conditions.specs.declared.Ranked.{Ranked}
-use Rattle.verdict.specs.Bounding.{Bounding, invariant, bounds, bound-of}
+use Rattle.verdict.specs.Bounding.{Bounding, invariant, bounds, bound-of, certificates-bounded}
 use Rattle.verdict.specs.Contents.{loop-in, ranking-in, lasso-in}
 use Rattle.verdict.specs.Pairs.{loop-record, certificate-record, kind-of, variables-of}
 use Rattle.verdict.specs.declared.Bounded.{Bounded}
@@ -60,11 +60,11 @@ module _ (rows : List ℕ) (n m : ℕ) (l : LoopSound rows n m) (certificate : L
   abbrev call : Bounding
   call = bound-of rows certificate state
 
-  both : (k : Kind) → CertificateSound has-rank rows certificate k → Both-sound (call .records)
+  both : (k : Kind) → CertificateSound certificates-bounded rows certificate k → Both-sound (call .records)
   unfolding bound-of
   both k c = record { loop-sound = l .told; certificate-sound = c .told }
 
-  kind-told : (k : Kind) → CertificateSound has-rank rows certificate k → kind-of (call .records) ≡ k
+  kind-told : (k : Kind) → CertificateSound certificates-bounded rows certificate k → kind-of (call .records) ≡ k
   unfolding bound-of kind-of
   kind-told k c = c .kind-is
 
@@ -98,11 +98,11 @@ module _ (rows : List ℕ) (n m : ℕ) (l : LoopSound rows n m) (certificate : L
 
   -- ---- kind 2
 
-  module _ (c : CertificateSound has-rank rows certificate ranking) (r : Ranked) (before entries : List ℤ)
+  module _ (c : CertificateSound certificates-bounded rows certificate ranking) (r : Ranked) (before entries : List ℤ)
       (by : RankedBy r (loop-held rows n m) (ranking-held certificate 6 m) before entries) (long : length entries ≡ 16) where
     ranking-told : ranking-in (call .records .certificate-is) ≡ ranking-held certificate 6 m
     unfolding bound-of
-    ranking-told = ranking-of rows n m l has-rank certificate c
+    ranking-told = ranking-of rows n m l certificates-bounded certificate c
 
     pub ranking-refused : r .holds ≡ false → refusal-of 2 8 0 ≡ bounds call
     ranking-refused e =
@@ -115,7 +115,7 @@ module _ (rows : List ℕ) (n m : ℕ) (l : LoopSound rows n m) (certificate : L
     pub ranking-ready : r .holds ≡ true → Ready entries n (r .start) (r .fall) state
     unfolding bound-of loop-record loop-held is-loop
     ranking-ready e =
-        let counts = counts-are rows n m l has-rank certificate ranking c refl in
+        let counts = counts-are rows n m l certificates-bounded certificate ranking c refl in
         let s = both ranking c in
         let sizes = ranking-sums-fit (call .records .loop-is) (call .records .certificate-is) (sound-says _ (s .loop-sound)) (sound-says _ (s .certificate-sound)) (loop-kind rows n m l) (c .kind-is) (counts .1 ∙ l .m-is) in
         ready _ _ r entries (rw (loop-told, ranking-told) at sizes) (by .decided .yes-holds e) long (front _ _ before entries (by .put e)) (by .start-is e) (by .fall-is e)
@@ -133,12 +133,12 @@ module _ (rows : List ℕ) (n m : ℕ) (l : LoopSound rows n m) (certificate : L
 
   -- ---- kind 4
 
-  module _ (ms : ℕ) (c : CertificateSound has-rank rows certificate lasso)
-      (ms-is : ms ≡ counts-read (certificate-record has-rank (loop-record rows) certificate) .ms) (r : Ranked)
+  module _ (ms : ℕ) (c : CertificateSound certificates-bounded rows certificate lasso)
+      (ms-is : ms ≡ counts-read (certificate-record certificates-bounded (loop-record rows) certificate) .ms) (r : Ranked)
       (before entries : List ℤ) (by : LassoBy r (loop-held rows n m) (lasso-held certificate n m ms) before entries) (long : length entries ≡ 16) where
     lasso-told : lasso-in (call .records .certificate-is) ≡ lasso-held certificate n m ms
     unfolding bound-of
-    lasso-told = lasso-of rows n m l has-rank certificate ms c ms-is
+    lasso-told = lasso-of rows n m l certificates-bounded certificate ms c ms-is
 
     pub lasso-refused : r .holds ≡ false → refusal-of 2 8 0 ≡ bounds call
     lasso-refused e =
@@ -161,7 +161,7 @@ module _ (rows : List ℕ) (n m : ℕ) (l : LoopSound rows n m) (certificate : L
     pub lasso-ready : r .holds ≡ true → Ready entries n (r .start) (r .fall) state
     unfolding bound-of loop-record loop-held is-loop
     lasso-ready e =
-        let counts = counts-are rows n m l has-rank certificate lasso c refl in
+        let counts = counts-are rows n m l certificates-bounded certificate lasso c refl in
         let s = both lasso c in
         let sizes = lasso-sums-fit-in (call .records .loop-is) (call .records .certificate-is) (sound-says _ (s .loop-sound)) (sound-says _ (s .certificate-sound)) (loop-kind rows n m l) (c .kind-is) (counts .0 ∙ l .n-is) (counts .1 ∙ l .m-is) .1 in
         ready _ _ r entries (rw (loop-told, lasso-told) at sizes) (by .decided .yes-holds e .ranked) long (front _ _ before entries (by .put e)) (by .start-is e) (by .fall-is e)

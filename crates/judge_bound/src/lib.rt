@@ -10,12 +10,13 @@ ghost use Rattle.theory.specs.Rankings as Rankings;
 ghost use Rattle.theory.specs.Lassos.{Invariant};
 ghost use Rattle.judge_conditions.specs.Decided.{Decides};
 ghost use Rattle.judge_conditions.specs.Held.{LassoIn, lasso-held};
-ghost use Rattle.record.specs.Layouts.{ranking, lasso, has-rank};
+ghost use Rattle.record.specs.Layouts.{ranking, lasso};
 ghost use Rattle.record.specs.Readers.{counts-read};
-ghost use Rattle.verdict.specs.Bounding.{before-outside, bounds, bound-of};
+ghost use Rattle.verdict.specs.Bounding.{before-outside, bounds, bound-of, certificates-bounded};
 ghost use Rattle.verdict.specs.Pairs.{loop-record, certificate-record};
 ghost use Rattle.judge.specs.Told.{LoopSound, CertificateSound};
 ghost use Rattle.judge_bound.specs.Told.{refusal-of, StateFits, Ready};
+use record::Wanted;
 use verdict::Bounded;
 use verdict::Outcome;
 use verdict::Verdict;
@@ -70,7 +71,7 @@ fn bound_at(entries: &[i64], n: usize, start: i64, fall: i64, state: &[i64]) -> 
 
 // Kind 2, of sound records and a state in range.
 fn bound_ranking(rows: &[u8], n: usize, m: usize, certificate: &[u8], state: &[i64]) -> Bounded
-    requires { ⌜ LoopSound (now rows) n m × CertificateSound has-rank (now rows) (now certificate) ranking × StateFits (now state) n ⌝ }
+    requires { ⌜ LoopSound (now rows) n m × CertificateSound certificates-bounded (now rows) (now certificate) ranking × StateFits (now state) n ⌝ }
     ensures { λ r. ⌜ r ≡ bounds (bound-of (now (rows .entry)) (now (certificate .entry)) (now (state .entry))) ⌝ }
 {
     let mut entries = [0i64; 16];
@@ -112,8 +113,8 @@ fn bound_lasso(
     ms: usize,
     state: &[i64],
 ) -> Bounded
-    requires { ⌜ LoopSound (now rows) n m × CertificateSound has-rank (now rows) (now certificate) lasso
-        × (ms ≡ counts-read (certificate-record has-rank (loop-record (now rows)) (now certificate)) .ms) × StateFits (now state) n ⌝ }
+    requires { ⌜ LoopSound (now rows) n m × CertificateSound certificates-bounded (now rows) (now certificate) lasso
+        × (ms ≡ counts-read (certificate-record certificates-bounded (loop-record (now rows)) (now certificate)) .ms) × StateFits (now state) n ⌝ }
     ensures { λ r. ⌜ r ≡ bounds (bound-of (now (rows .entry)) (now (certificate .entry)) (now (state .entry))) ⌝ }
 {
     let mut entries = [0i64; 16];
@@ -143,7 +144,12 @@ fn bound_sound(rows: &[u8], n: usize, m: usize, certificate: &[u8], state: &[i64
     requires { ⌜ LoopSound (now rows) n m ⌝ }
     ensures { λ r. ⌜ r ≡ bounds (bound-of (now (rows .entry)) (now (certificate .entry)) (now (state .entry))) ⌝ }
 {
-    let said = record_check::check_ranked(certificate, n, m);
+    let wanted = Wanted {
+        ranking: true,
+        exclusion: false,
+        lasso: true,
+    };
+    let said = record_check::check_certificate(certificate, n, m, wanted);
     if said.number != 0 {
         return refused(2, said.number, said.place);
     }

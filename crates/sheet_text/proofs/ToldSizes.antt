@@ -2,14 +2,14 @@
 -- rank are is `Ranking-sums-fit` of crate `verdict`. Assumes nothing.
 use mathlib.Core.Path.{_≡_}
 use Prim.Native.Nat.{ℕ, _+_, _≤_, _<_}
-use mathlib.Core.Bool.{Bool, true, false, _||_}
+use mathlib.Core.Bool.{Bool, true, false}
 use mathlib.Core.List.{List, [], _∷_}
 use native.Mathlib.Omega.{arith}
 use lib.IntN.{ℤ}
 use lib.ListN.{length}
 use borrow.Author.Tests.{leb-true, leb-false, eqb-true}
 use Rattle.record.specs.Fields.{Field, width, widths, before-fault}
-use Rattle.record.specs.Layouts.{Kind, is-loop, is-certificate, counts, lengthOf, listed}
+use Rattle.record.specs.Layouts.{Kind, is-known, counts, lengthOf, listed}
 use Rattle.record.specs.Ranges.{within}
 use Rattle.record.specs.Readers as R
 use Rattle.record.specs.Readers.{Reader, sound}
@@ -46,7 +46,7 @@ fault-within (f ∷ fs) (z ∷ zs) = step (within (f .range) z) (fault-within fs
     step true rest = omega arith
     step false rest = omega arith
 
-pub sound-told : (r : Reader) → ((k : Kind) → (r .wants) k ≡ true → (is-loop k || is-certificate k) ≡ true) → Small-told (length (r .bytes)) (first sound r)
+pub sound-told : (r : Reader) → ((k : Kind) → (r .wants) k ≡ true → is-known k ≡ true) → Small-told (length (r .bytes)) (first sound r)
 unfolding sound R.list-start R.fields
 sound-told r known =
     let size = length (r .bytes) in

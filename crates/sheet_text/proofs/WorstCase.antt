@@ -2,24 +2,27 @@
 -- the input at least. Assumes nothing.
 use mathlib.Core.Path.{_≡_, refl, sym, ap, _∙_}
 use Prim.Native.Nat.{ℕ, zero, suc, _+_, _*_, _^_, _≤_, _<_, min}
-use mathlib.Core.Bool.{true, _||_, false≢true}
+use mathlib.Core.Bool.{true, false≢true}
 use mathlib.Core.List.{List, [], _∷_, _++_}
 use native.Mathlib.Decide.{decLt}
 use native.Mathlib.Omega.{arith}
 use lib.IntN.{ℤ}
 use lib.ListN.{length, take, drop, length-append, length-drop}
 use lib.Seq.{take-at}
-use Rattle.decimal.specs.Decimals.{decimal}
-use Rattle.decimal.proofs.DecimalLaws.{decimal-length}
-use Rattle.record.specs.Layouts.{Kind, loop, ranking, exclusion, lasso, other, is-loop, is-certificate}
+use Rattle.whole.specs.Sums.{Within}
+use Rattle.decimal.specs.Decimals.{decimal, signed-decimal}
+use Rattle.decimal.proofs.DecimalLaws.{decimal-length, signed-length}
+use Rattle.record.specs.Layouts.{Kind, loop, ranking, exclusion, lasso, other}
 use Rattle.record.specs.Readers as R
 use Rattle.record.specs.Readers.{Reader, sound}
-use Rattle.record.proofs.ReadThenWrite.{Sound, sound-says, loop-only}
+use Rattle.record.proofs.KindLaws.{loop-only, loop-known, wanted-known}
+use Rattle.record.specs.Wants.{wants-of}
+use Rattle.record.proofs.ReadThenWrite.{Sound, sound-says}
 use Rattle.refusal.specs.Tests.{Told, done, refused, first}
 use Rattle.theory.specs.Loops.{Loop}
 use Rattle.theory.specs.Rankings as Rankings
 use Rattle.verdict.specs.Contents.{loop-in}
-use Rattle.verdict.specs.Judging.{Judging, rank-room, judging, judges, rank-after, judge-of}
+use Rattle.verdict.specs.Judging.{Judging, rank-room, judging, judges, rank-after, judge-of, certificates-judged}
 use Rattle.verdict.specs.Pairs.{loop-record, certificate-record, kind-of, variables-of, folded, conditions}
 use Rattle.verdict.specs.Stages.{Said, agreed, refusal, Stage, _says_, said, verdict-of}
 use Rattle.verdict.specs.declared.Outcome.the-variants.{Ranking}
@@ -70,17 +73,6 @@ folded-small (refused k p) = (omega arith, omega arith)
 
 -- ---- the records of a judge
 
-loop-known : (k : Kind) → is-loop k ≡ true → (is-loop k || is-certificate k) ≡ true
-loop-known k e = rw e
-
-certificate-known : (k : Kind) → is-certificate k ≡ true → (is-loop k || is-certificate k) ≡ true
-unfolding is-loop is-certificate
-certificate-known loop e = refl
-certificate-known ranking e = refl
-certificate-known exclusion e = refl
-certificate-known lasso e = refl
-certificate-known other e = e
-
 -- a loop whose bytes are sound
 module _ (l : List ℕ) (loop-sound : first sound (loop-record l) ≡ done) where
   loop-is-sound : Sound (loop-record l)
@@ -106,7 +98,7 @@ module _ (l c : List ℕ) (loop-sound : first sound (loop-record l) ≡ done) (n
 
   -- the certificate's record
   abbrev r : Reader
-  r = certificate-record is-certificate (loop-record l) c
+  r = certificate-record certificates-judged (loop-record l) c
 
   said-is-small : Small-said (said judging j)
   unfolding judging judge-of rank-room conditions certificate-record variables-of variables-in
@@ -114,7 +106,7 @@ module _ (l c : List ℕ) (loop-sound : first sound (loop-record l) ≡ done) (n
       said-small judging j (
         rw loop-sound tt,
         (
-          told-more (length c) (first sound r) near (sound-told r certificate-known),
+          told-more (length c) (first sound r) near (sound-told r (wanted-known _)),
           (
             first-small 65_536 rank-room j (λ e. (omega arith, omega (arith, few-variables l loop-sound)), λ e. tt),
             (folded-small _, tt),
@@ -123,7 +115,7 @@ module _ (l c : List ℕ) (loop-sound : first sound (loop-record l) ≡ done) (n
       )
 
   -- an accepted certificate's record
-  certificate-wanted : first sound r ≡ done → is-certificate (R.kind r) ≡ true
+  certificate-wanted : first sound r ≡ done → certificates-judged (R.kind r) ≡ true
   unfolding certificate-record
   certificate-wanted h = sound-says r h .wanted
 
@@ -144,8 +136,8 @@ module _ (l c : List ℕ) (loop-sound : first sound (loop-record l) ≡ done) (n
   accepted-sound zero-told = accepts-agrees j .0 zero-told .1 .0
 
   accepted-small : judges j .number ≡ 0 → (k : Kind) → kind-of (j .records) ≡ k → Small-verdict (judges j .outcome) (judges j .number) (judges j .place) printed
-  unfolding kind-of judge-of is-certificate variables-in loop-in
-  accepted-small zero-told loop e = absurd (false≢true (ap is-certificate (sym e) ∙ certificate-wanted (accepted-sound zero-told)))
+  unfolding kind-of judge-of wants-of variables-in loop-in
+  accepted-small zero-told loop e = absurd (false≢true (ap certificates-judged (sym e) ∙ certificate-wanted (accepted-sound zero-told)))
   accepted-small zero-told ranking e =
       let a = ranking-answers j lent e zero-told in
       let s = sound-says r (accepted-sound zero-told) in
@@ -156,7 +148,7 @@ module _ (l c : List ℕ) (loop-sound : first sound (loop-record l) ≡ done) (n
       let s = sound-says r (accepted-sound zero-told) in
       let same = same-counts l c s in
       rw (a .verdict-is) (printed-small _ _ refl (lasso-sums-fit-in (loop-record l) r (loop-is-sound l loop-sound) s (loop-kind l loop-sound) e (same .0) (same .1) .1) (a .list-is))
-  accepted-small zero-told other e = absurd (false≢true (ap is-certificate (sym e) ∙ certificate-wanted (accepted-sound zero-told)))
+  accepted-small zero-told other e = absurd (false≢true (ap certificates-judged (sym e) ∙ certificate-wanted (accepted-sound zero-told)))
 
   verdict-small : (s : Said) → said judging j ≡ s → Small-verdict (judges j .outcome) (judges j .number) (judges j .place) printed
   unfolding judges verdict-of

@@ -13,10 +13,11 @@ use Rattle.whole.specs.Sums.{Each, NonNeg}
 use Rattle.whole.proofs.EachLaws.{each-then}
 use Rattle.whole.proofs.Solve.{v, le-fact}
 use Rattle.record.specs.Contents.{In}
-use Rattle.record.specs.Layouts.{ranking, exclusion, lasso, is-certificate}
+use Rattle.record.specs.Layouts.{ranking, exclusion, lasso}
 use Rattle.record.specs.Ranges.{_to_, multipliers, scales}
 use Rattle.record.specs.Readers.{counts-read, sound}
-use Rattle.record.proofs.ReadThenWrite.{Sound, sound-says, certificate-no-loop, arguments-read}
+use Rattle.record.proofs.KindLaws.{wanted-no-loop}
+use Rattle.record.proofs.ReadThenWrite.{Sound, sound-says, arguments-read}
 use Rattle.refusal.specs.Tests.{done, number, first}
 use Rattle.refusal.proofs.TestLaws.{number-avoided}
 use Rattle.verdict.proofs.StageLaws.{silent-said}
@@ -28,7 +29,7 @@ use Rattle.theory.proofs.ExclusionTheorems.{exclusion-excludes, not-both}
 use Rattle.theory.proofs.LassoTheorems.{lasso-bounds-runs}
 use Rattle.theory.proofs.RankingTheorems.{ranking-bounds-runs}
 use Rattle.verdict.specs.Contents.{loop-in, ranking-in, exclusion-in, lasso-in, parts}
-use Rattle.verdict.specs.Judging.{Judging, judges, judge-of}
+use Rattle.verdict.specs.Judging.{Judging, judges, judge-of, certificates-judged}
 use Rattle.verdict.specs.Outcomes.{grade-of}
 use Rattle.verdict.specs.Pairs.{Pair, loop-record, certificate-record, kind-of, conditions}
 use Rattle.verdict.specs.declared.Grade.the-variants.{Whole, Fractions}
@@ -51,11 +52,11 @@ scale-positive k h = omega (arith, le-fact (v (pos 1)) (v (pos k)) (h .least))
 -- ---- the records of a judge
 
 -- a certificate goes by the loop's counts
-pub same-counts : (l c : List ℕ) → Sound (certificate-record is-certificate (loop-record l) c)
-    → (counts-read (certificate-record is-certificate (loop-record l) c) .n ≡ counts-read (loop-record l) .n)
-    × (counts-read (certificate-record is-certificate (loop-record l) c) .m ≡ counts-read (loop-record l) .m)
+pub same-counts : (l c : List ℕ) → Sound (certificate-record certificates-judged (loop-record l) c)
+    → (counts-read (certificate-record certificates-judged (loop-record l) c) .n ≡ counts-read (loop-record l) .n)
+    × (counts-read (certificate-record certificates-judged (loop-record l) c) .m ≡ counts-read (loop-record l) .m)
 unfolding certificate-record
-same-counts l c s = arguments-read (certificate-record is-certificate (loop-record l) c) (certificate-no-loop _ (s .wanted))
+same-counts l c s = arguments-read (certificate-record certificates-judged (loop-record l) c) (wanted-no-loop _ _ (s .wanted))
 
 -- the grade is whole exactly at q = 1
 whole-grade : (q : ℕ) → grade-of q ≡ Whole → q ≡ 1

@@ -14,13 +14,14 @@ use lib.Seq.{take-at, drop-at, take-all, drop-drop}
 use Rattle.whole.specs.Rows.{Row}
 use Rattle.whole.specs.Sums.{Each}
 use Rattle.record.specs.Contents.{Counts-in, Row-in, Rows-in, row-values, rows-values, Ranking-in, ranking-values, Exclusion-in, exclusion-values, Lasso-in, lasso-values}
-use Rattle.record.specs.Layouts.{ranking, kindOf, is-loop, is-lasso, is-certificate}
+use Rattle.record.specs.Layouts.{ranking, kindOf, is-loop, is-lasso}
 use Rattle.record.specs.Readers as R
 use Rattle.record.specs.Readers.{sound}
+use Rattle.record.proofs.KindLaws.{wanted-no-loop}
+use Rattle.record.specs.Wants.{wants-of}
 use Rattle.record.specs.Writers as W
 use Rattle.record.specs.declared.Writing.{Writing}
 use Rattle.record.specs.Writers.{Writer}
-use Rattle.record.proofs.ReadThenWrite.{certificate-no-loop}
 use Rattle.record.proofs.WriteAccepts.{Accepts, write-accepts-loop, write-accepts-ranking, write-accepts-exclusion, write-accepts-lasso}
 use Rattle.record.proofs.WriteThenRead.{Writable, over, counts-same, kind-same, list-same, passes-sound, has-written}
 use Rattle.refusal.proofs.TestLaws.{passes-done}
@@ -29,7 +30,7 @@ use Rattle.theory.specs.Lassos.{Lasso, LassoHolds}
 use Rattle.theory.specs.Loops as Loops
 use Rattle.theory.specs.Rankings.{RankingHolds}
 use Rattle.verdict.specs.Contents.{rows-from, ranking-from, exclusion-from, lasso-from, loop-in, ranking-in, exclusion-in, lasso-in, parts}
-use Rattle.verdict.specs.Judging.{Judging, judges, judge-of}
+use Rattle.verdict.specs.Judging.{Judging, judges, judge-of, certificates-judged}
 use Rattle.verdict.specs.Pairs.{loop-record, certificate-record, kind-of, variables-of}
 use Rattle.verdict.proofs.Accepted.{Both-sound, accepted-exactly-when-ranking, accepted-exactly-when-exclusion, accepted-exactly-when-lasso}
 
@@ -108,7 +109,7 @@ unfolding loop-record W.writer W.kind kindOf is-loop
 loop-over n m rs room = refl
 
 certificate-over : (n m : ℕ) (rs : List Row) (room : List ℕ) (w : Writer) → Writable (loop-writer n m rs room) → is-loop (W.kind w) ≡ false → w .n ≡ n → w .m ≡ m
-    → certificate-record is-certificate (over (loop-writer n m rs room) is-loop 0) (W.record-bytes w) ≡ over w is-certificate 0
+    → certificate-record certificates-judged (over (loop-writer n m rs room) is-loop 0) (W.record-bytes w) ≡ over w certificates-judged 0
 unfolding certificate-record W.counts-given W.writer
 certificate-over n m rs room w s e same-n same-m = rw (counts-same (loop-writer n m rs room) s is-loop 0, e, same-n, same-m)
 
@@ -134,7 +135,7 @@ unfolding W.kind W.writer kindOf is-loop
 loop-wanted n m rs room = refl
 
 judged-pair : (n m : ℕ) (rs : List Row) (room room′ : List ℕ) (w : Writer) (lent : List ℤ) → Rows-in n m rs → W.writes (loop-writer n m rs room) .number ≡ 0
-    → W.writes w .number ≡ 0 → is-certificate (W.kind w) ≡ true → w .n ≡ n → w .m ≡ m
+    → W.writes w .number ≡ 0 → certificates-judged (W.kind w) ≡ true → w .n ≡ n → w .m ≡ m
     → Judged-pair (judge-of (bytes-in (loop-writer n m rs room) room) (bytes-in w room′) lent) n m rs w
 unfolding bytes-in judge-of kind-of variables-of
 judged-pair n m rs room room′ w lent rows-in told told′ wanted same-n same-m =
@@ -142,18 +143,18 @@ judged-pair n m rs room room′ w lent rows-in told told′ wanted same-n same-m
     let h = has-written l room told in
     let h′ = has-written w room′ told′ in
     let held = loop-held n m rs room rows-in (h .writable) in
-    rw (h .bytes-told, h′ .bytes-told, loop-over n m rs room, certificate-over n m rs room w (h .writable) (certificate-no-loop (W.kind w) wanted) same-n same-m)
+    rw (h .bytes-told, h′ .bytes-told, loop-over n m rs room, certificate-over n m rs room w (h .writable) (wanted-no-loop _ (W.kind w) wanted) same-n same-m)
     (record {
       both-sound =
           record {
             loop-sound = passes-done sound (over l is-loop 0) (passes-sound l (h .writable) is-loop 0 (loop-wanted n m rs room));
-            certificate-sound = passes-done sound (over w is-certificate 0) (passes-sound w (h′ .writable) is-certificate 0 wanted);
+            certificate-sound = passes-done sound (over w certificates-judged 0) (passes-sound w (h′ .writable) certificates-judged 0 wanted);
           };
-      kind-is = kind-same w (h′ .writable) is-certificate 0;
+      kind-is = kind-same w (h′ .writable) certificates-judged 0;
       variables-are = held .0;
       loop-is = held .1;
-      list-is = list-same w (h′ .writable) is-certificate 0;
-      counts-are = counts-same w (h′ .writable) is-certificate 0;
+      list-is = list-same w (h′ .writable) certificates-judged 0;
+      counts-are = counts-same w (h′ .writable) certificates-judged 0;
     })
 
 told-zero : (w : Writer) (bytes : ℕ) → Accepts w bytes → W.writes w .number ≡ 0
@@ -174,7 +175,7 @@ pub ranking-in-values : (n m : ℕ) (rs : List Row) (Y Z : List ℤ) (room room�
     → 4 + (2 + 4 * m) ≤ length room′ → n ≤ length lent
     → (judges (judge-of (bytes-in (loop-writer n m rs room) room) (bytes-in (W.writer 2 n m (ranking-values Y Z) room′) room′) lent) .number ≡ 0)
     ↔ RankingHolds (Loops.over n rs) (record { Y = Y; Z = Z })
-unfolding W.writer W.kind kindOf is-certificate W.counts-given judge-of ranking-in
+unfolding W.writer W.kind kindOf wants-of W.counts-given judge-of ranking-in
 ranking-in-values n m rs Y Z room room′ lent g h fits there =
     let w = W.writer 2 n m (ranking-values Y Z) room′ in
     let j = judge-of (bytes-in (loop-writer n m rs room) room) (bytes-in w room′) lent in
@@ -189,7 +190,7 @@ pub exclusion-in-values : (n m : ℕ) (rs : List Row) (q : ℕ) (U V′ W′ : L
     → 4 + (4 + 12 * n) ≤ length room′
     → (judges (judge-of (bytes-in (loop-writer n m rs room) room) (bytes-in (W.writer 3 n m (exclusion-values (pos q) U V′ W′) room′) room′) lent) .number ≡ 0)
     ↔ ExclusionHolds (Loops.over n rs) (record { q = q; U = U; «V» = V′; W = W′ })
-unfolding W.writer W.kind kindOf is-certificate W.counts-given judge-of exclusion-in
+unfolding W.writer W.kind kindOf wants-of W.counts-given judge-of exclusion-in
 exclusion-in-values n m rs q U V′ W′ room room′ lent g h fits =
     let w = W.writer 3 n m (exclusion-values (pos q) U V′ W′) room′ in
     let j = judge-of (bytes-in (loop-writer n m rs room) room) (bytes-in w room′) lent in
@@ -202,7 +203,7 @@ pub lasso-in-values : (n m : ℕ) (rs : List Row) (c : Lasso) (room room′ : Li
     → 4 + (18 + 2 * n + length (c .stem) * (4 * n + 6) + 6 * m) ≤ length room′ → n ≤ length lent
     → (judges (judge-of (bytes-in (loop-writer n m rs room) room) (bytes-in (W.writer 4 n m (lasso-values (parts c)) room′) room′) lent) .number ≡ 0)
     ↔ LassoHolds (Loops.over n rs) c
-unfolding W.writer W.kind kindOf is-certificate W.counts-given W.ms-given is-lasso judge-of lasso-in lasso-values parts
+unfolding W.writer W.kind kindOf wants-of W.counts-given W.ms-given is-lasso judge-of lasso-in lasso-values parts
 lasso-in-values n m rs c room room′ lent g h fits there =
     let w = W.writer 4 n m (lasso-values (parts c)) room′ in
     let j = judge-of (bytes-in (loop-writer n m rs room) room) (bytes-in w room′) lent in

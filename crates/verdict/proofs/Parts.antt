@@ -3,7 +3,7 @@
 -- and the sizes of all sums.
 use mathlib.Core.Path.{_≡_, refl, sym, ap, _∙_}
 use Prim.Native.Nat.{ℕ, zero, suc, _+_, _*_}
-use mathlib.Core.Bool.{_||_, true}
+use mathlib.Core.Bool.{true}
 use mathlib.Core.List.{List, [], _++_, append-assoc, append-nil}
 use native.Mathlib.Nat.{zero-mul}
 use native.Mathlib.Omega.{arith}
@@ -14,7 +14,7 @@ use Rattle.whole.specs.Sums.{Each}
 use Rattle.record.specs.Contents.{In, List-in, Counts-in, Rows-in, Ranking-in, Exclusion-in, Lasso-in}
 use Rattle.record.specs.Fields.{Field}
 use Rattle.record.specs.Writers as W
-use Rattle.record.specs.Layouts.{Counts, loop, ranking, exclusion, lasso, is-loop, is-lasso, is-certificate, entry, right-side, multiplier, scale, direction, row-count, row, rowsOf, counts, layout, listed}
+use Rattle.record.specs.Layouts.{Counts, loop, ranking, exclusion, lasso, is-loop, is-lasso, is-known, entry, right-side, multiplier, scale, direction, row-count, row, rowsOf, counts, layout, listed}
 use Rattle.record.specs.Ranges.{_to_, multipliers, scales, rows, variables}
 use Rattle.record.specs.Readers as R
 use Rattle.record.specs.Readers.{Reader}
@@ -60,7 +60,7 @@ fit-last f n zs h = fit-run f n [] zs (rw append-nil h) .0
 -- ---- the four kinds
 
 module _ (r : Reader) (s : Sound r) where
-  pub counts-in : (is-loop (R.kind r) || is-certificate (R.kind r)) ≡ true → Counts-in (R.counts-read r .n) (R.counts-read r .m)
+  pub counts-in : is-known (R.kind r) ≡ true → Counts-in (R.counts-read r .n) (R.counts-read r .m)
   counts-in known =
       let both = both-true _ _ (counts-in-range r s known) in
       record { n-in = within-in variables (pos (R.counts-read r .n)) (both .0); m-in = within-in rows (pos (R.counts-read r .m)) (both .1) }

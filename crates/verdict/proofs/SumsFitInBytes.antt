@@ -12,7 +12,7 @@ use Rattle.whole.proofs.Size.{abs-mul}
 use Rattle.whole.proofs.SumLaws.{length-scale}
 use Rattle.whole.proofs.Solve.{v, le-fact}
 use Rattle.record.specs.Contents.{In, List-in, Row-in}
-use Rattle.record.specs.Layouts.{loop, ranking, exclusion, lasso, is-loop, is-certificate}
+use Rattle.record.specs.Layouts.{loop, ranking, exclusion, lasso, is-known}
 use Rattle.record.specs.Ranges.{_to_, variables, rows, multipliers, scales}
 use Rattle.record.specs.Readers.{Reader, kind, counts-read}
 use Rattle.record.proofs.ReadThenWrite.{Sound}
@@ -34,7 +34,7 @@ weights-of count zs few h = record { few = omega (arith, h .counted); small = sm
 
 -- the loop of a sound loop record
 pub loop-small : (r : Reader) → Sound r → kind r ≡ loop → (counts-read r .n ≤ 16) × (counts-read r .m ≤ 64) × Each Row-small (loop-in r .rows)
-unfolding is-loop is-certificate variables rows
+unfolding is-known variables rows
 loop-small r s e =
     let limits = counts-in r s (rw e) in
     let few = most-of 1 16 (counts-read r .n) (limits .n-in) in

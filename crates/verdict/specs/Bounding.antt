@@ -1,15 +1,16 @@
 -- 01, "Numbers of the verdict": what the bound call answers, on every pair of byte strings and every state.
 -- "Bound: loop, certificate (kind 3 gives 4), 10, 9, 8, 11" is the list `bounding`.
 use Prim.Native.Nat.{ℕ, suc}
-use mathlib.Core.Bool.{true, false, not, _||_}
+use mathlib.Core.Bool.{Bool, true, false, not, _||_}
 use mathlib.Core.List.{List, [], _∷_}
 use lib.Dec.{eqb}
 use lib.IntN.{ℤ, pos, _+ℤ_}
 use lib.ListN.{length}
 use lib.Signed.{leZ}
-use Rattle.record.specs.Layouts.{is-lasso, has-rank}
+use Rattle.record.specs.Layouts.{Kind, is-lasso}
 use Rattle.record.specs.Ranges.{state-entries, within}
 use Rattle.record.specs.Readers.{sound}
+use Rattle.record.specs.Wants.{wants-of}
 use Rattle.refusal.specs.Tests.{Test, _at_unless_, first}
 use Rattle.theory.specs.Rankings as Rankings
 use Rattle.whole.specs.Sums.{dot}
@@ -18,6 +19,10 @@ use Rattle.verdict.specs.Pairs.{loop-record, certificate-record, Pair, k
 use Rattle.verdict.specs.Stages.{Said, agreed, refusal, Stage, _says_, said, verdict-of}
 use Rattle.verdict.specs.declared.Bounded.{Bounded}
 use Rattle.verdict.specs.declared.Outcome.{Outcome}
+
+-- a bound is by certificates of kinds 2 and 4: "kind 3 gives 4"
+abbrev pub certificates-bounded : Kind → Bool
+certificates-bounded = wants-of (record { ranking = true; exclusion = false; lasso = true })
 
 -- what comes to a bound call: the records and a state
 pub record Bounding : Type 0 where
@@ -63,4 +68,4 @@ bounds b =
 
 -- bound on bytes
 unfoldable pub bound-of : List ℕ → List ℕ → List ℤ → Bounding
-bound-of l c state = record { records = record { loop-is = loop-record l; certificate-is = certificate-record has-rank (loop-record l) c }; state = state }
+bound-of l c state = record { records = record { loop-is = loop-record l; certificate-is = certificate-record certificates-bounded (loop-record l) c }; state = state }

@@ -6,13 +6,18 @@ use mathlib.Core.List.{List, [], _∷_, _++_}
 use lib.Dec.{leb}
 use lib.IntN.{ℤ}
 use lib.ListN.{length, drop}
-use Rattle.record.specs.Layouts.{is-certificate, has-rank}
+use Rattle.record.specs.Layouts.{Kind, has-rank}
 use Rattle.record.specs.Readers.{sound}
+use Rattle.record.specs.Wants.{wants-of}
 use Rattle.refusal.specs.Tests.{Test, _at_unless_, first}
 use Rattle.theory.specs.Conditions.{ranked}
 use Rattle.verdict.specs.Pairs.{loop-record, certificate-record, Pair, kind-of, variables-of, conditions, rank-of, outcome-of}
 use Rattle.verdict.specs.Stages.{Said, agreed, refusal, Stage, _says_, said, verdict-of}
 use Rattle.verdict.specs.declared.Verdict.{Verdict}
+
+-- judging is of certificates of kinds 2 to 4
+abbrev pub certificates-judged : Kind → Bool
+certificates-judged = wants-of (record { ranking = true; exclusion = true; lasso = true })
 
 -- what comes to a judge: the records, and how many places the rank list has
 pub record Judging : Type 0 where
@@ -44,4 +49,4 @@ rank-after j lent = ranks (said judging j) (has-rank (kind-of (j .records))) (ra
 
 -- the judge on bytes
 unfoldable pub judge-of : List ℕ → List ℕ → List ℤ → Judging
-judge-of l c lent = record { records = record { loop-is = loop-record l; certificate-is = certificate-record is-certificate (loop-record l) c }; room = length lent }
+judge-of l c lent = record { records = record { loop-is = loop-record l; certificate-is = certificate-record certificates-judged (loop-record l) c }; room = length lent }

@@ -19,9 +19,13 @@ use Rattle.verdict.specs.declared.Outcome.the-variants.{Nothing, Ranking
 
 -- ---- the two records
 
+-- judging and bound are of loops of kind 1
+abbrev pub loops-judged : Kind → Bool
+loops-judged = is-loop
+
 -- a judge's loop record, and its certificate record, which is read with the loop's n and m. No list is filled, so none is lent
 unfoldable pub loop-record : List ℕ → Reader
-loop-record bytes = record { bytes = bytes; wants = is-loop; n = 0; m = 0; room = 0 }
+loop-record bytes = record { bytes = bytes; wants = loops-judged; n = 0; m = 0; room = 0 }
 
 unfoldable pub certificate-record : (Kind → Bool) → Reader → List ℕ → Reader
 certificate-record wants l bytes = record { bytes = bytes; wants = wants; n = counts-read l .n; m = counts-read l .m; room = 0 }

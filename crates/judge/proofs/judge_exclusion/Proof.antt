@@ -2,18 +2,18 @@
 use mathlib.Core.Path.{_∙_}
 use native.Mathlib.Omega.{arith}
 use borrow.Author.Tests.{not-true, not-false}
-use Rattle.record.specs.Layouts.{is-certificate}
 use Rattle.judge.proofs.ByKind.{exclusion-refused, exclusion-accepted}
 use Rattle.judge.proofs.Sizes.{n-few, rows-in, exclusion-long}
 use borrow.Author.Needs.{needs}
 use Rattle.judge.proofs.judge_exclusion.Statement.{statement}
 use Rattle.judge.proofs.judge_exclusion.Tie as tie
+use Rattle.verdict.specs.Judging.{certificates-judged}
 
 exclusion-requires : tie.Need-exclusion-requires
 exclusion-requires c κs =
     let s = c .before .before in
     let l = s .pre .0 in
-    (rows-in _ _ _ l, n-few _ _ _ l, exclusion-long _ _ _ l is-certificate _ (s .pre .1))
+    (rows-in _ _ _ l, n-few _ _ _ l, exclusion-long _ _ _ l certificates-judged _ (s .pre .1))
 
 refused-requires : tie.Need-refused-requires
 refused-requires c κs = search needs
@@ -33,7 +33,7 @@ returns c =
 u16-at-requires : tie.Need-u16-at-requires
 u16-at-requires c κs =
     let s = c .before .before .before .before in
-    omega (arith, exclusion-long _ _ _ (s .pre .0) is-certificate _ (s .pre .1))
+    omega (arith, exclusion-long _ _ _ (s .pre .0) certificates-judged _ (s .pre .1))
 
 grade-requires : tie.Need-grade-requires
 grade-requires c κs = search needs

@@ -5,7 +5,8 @@ use native.Mathlib.Omega.{arith}
 use mir.Facts.{toZ-ofZ}
 use lib.ListN.{length}
 use borrow.Author.Tests.{not-true, not-false}
-use Rattle.record.specs.Layouts.{lasso, is-certificate, has-rank}
+use Rattle.record.specs.Layouts.{lasso, has-rank}
+use Rattle.verdict.specs.Judging.{certificates-judged}
 use Rattle.judge.proofs.ByKind.{short-list, lasso-refused, lasso-accepted}
 use Rattle.judge.proofs.Sizes.{rows-in, lasso-long}
 use borrow.Author.Needs.{needs, sfits-of}
@@ -27,7 +28,7 @@ lasso-requires : tie.Need-lasso-requires
 lasso-requires c κs =
     let s = c .before .before .before .before in
     let l = s .pre .0 in
-    (rows-in _ _ _ l, lasso-long _ _ _ _ l is-certificate _ (s .pre .1) (s .pre .2), omega (arith, c .before .if1 .left))
+    (rows-in _ _ _ l, lasso-long _ _ _ _ l certificates-judged _ (s .pre .1) (s .pre .2), omega (arith, c .before .if1 .left))
 
 refused-requires-2 : tie.Need-refused-requires-2
 refused-requires-2 c κs = search needs

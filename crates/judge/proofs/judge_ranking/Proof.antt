@@ -5,7 +5,8 @@ use native.Mathlib.Omega.{arith}
 use mir.Facts.{toZ-ofZ}
 use lib.ListN.{length}
 use borrow.Author.Tests.{not-true, not-false}
-use Rattle.record.specs.Layouts.{ranking, is-certificate, has-rank}
+use Rattle.record.specs.Layouts.{ranking, has-rank}
+use Rattle.verdict.specs.Judging.{certificates-judged}
 use Rattle.judge.proofs.ByKind.{short-list, ranking-refused, ranking-accepted}
 use Rattle.judge.proofs.Sizes.{n-few, m-few, rows-in, ranking-long}
 use borrow.Author.Needs.{needs, sfits-of}
@@ -27,7 +28,7 @@ ranking-requires : tie.Need-ranking-requires
 ranking-requires c κs =
     let s = c .before .before .before .before in
     let l = s .pre .0 in
-    (rows-in _ _ _ l, n-few _ _ _ l, m-few _ _ _ l, ranking-long _ _ _ l is-certificate _ (s .pre .1), omega (arith, c .before .if1 .left))
+    (rows-in _ _ _ l, n-few _ _ _ l, m-few _ _ _ l, ranking-long _ _ _ l certificates-judged _ (s .pre .1), omega (arith, c .before .if1 .left))
 
 refused-requires-2 : tie.Need-refused-requires-2
 refused-requires-2 c κs = search needs

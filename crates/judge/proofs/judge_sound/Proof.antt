@@ -1,9 +1,9 @@
 -- `judge::judge_sound` meets its contract: the check refuses as judging does, and its kind leads to the conditions. Assumes nothing.
 use mathlib.Core.Path.{ap, _∙_}
-use Rattle.record.specs.Layouts.{ranking, exclusion, lasso, kindOf, is-certificate}
-use Rattle.record.specs.Readers.{certificate-reader}
-use Rattle.verdict.specs.Judging.{judge-of}
-use Rattle.record_fields.proofs.ByKind.{no-certificate}
+use Rattle.record.specs.Layouts.{ranking, exclusion, lasso, kindOf}
+use Rattle.record_check.specs.Checks.{certificate-check}
+use Rattle.record.proofs.KindLaws.{unwanted-kind}
+use Rattle.verdict.specs.Judging.{judge-of, certificates-judged}
 use Rattle.judge.proofs.Entered.{certificate-refused, ms-told, no-other, sound-as}
 use Rattle.judge.proofs.Ways.{refused-so, at-certificate}
 use borrow.Author.Needs.{needs}
@@ -17,7 +17,7 @@ refused-requires : tie.Need-refused-requires
 refused-requires c κs = search needs
 
 returns : tie.Need-returns
-unfolding judge-of certificate-reader
+unfolding judge-of certificate-check
 returns c =
     let called = c .before .before .before in
     let s = called .before .before .before in
@@ -26,36 +26,36 @@ returns c =
     let v = called .check-certificate .result in
     let told =
     refused-so j (a .rank .now) 2 (v .number) (v .place)
-    (at-certificate j (s .pre .told) _ _ (certificate-refused is-certificate (a .rows .now) (a .n) (a .m) (s .pre) (a .certificate .now) v (called .check-certificate .ensures) (c .before .if1 .taken)))
+    (at-certificate j (s .pre .told) _ _ (certificate-refused certificates-judged (a .rows .now) (a .n) (a .m) (s .pre) (a .certificate .now) v (called .check-certificate .ensures) (c .before .if1 .taken)))
     in
     (c .refused .ensures ∙ told .0, told .1)
 
 judge-ranking-requires : tie.Need-judge-ranking-requires
-unfolding certificate-reader kindOf
+unfolding certificate-check kindOf
 judge-ranking-requires c κs =
     let s = c .before .before .before .before .before .before .before in
     let a = s .args in
     let called = c .before .before .before .before in
-    (s .pre, sound-as is-certificate (a .rows .now) (a .n) (a .m) (s .pre) (a .certificate .now) (called .check-certificate .result) (called .check-certificate .ensures) (c .before .before .if1 .left) ranking (ap kindOf (c .before .match .keys1)))
+    (s .pre, sound-as certificates-judged (a .rows .now) (a .n) (a .m) (s .pre) (a .certificate .now) (called .check-certificate .result) (called .check-certificate .ensures) (c .before .before .if1 .left) ranking (ap kindOf (c .before .match .keys1)))
 
 judge-exclusion-requires : tie.Need-judge-exclusion-requires
-unfolding certificate-reader kindOf
+unfolding certificate-check kindOf
 judge-exclusion-requires c κs =
     let s = c .before .before .before .before .before .before in
     let a = s .args in
     let called = c .before .before .before in
-    (s .pre, sound-as is-certificate (a .rows .now) (a .n) (a .m) (s .pre) (a .certificate .now) (called .check-certificate .result) (called .check-certificate .ensures) (c .before .if1 .left) exclusion (ap kindOf (c .match .keys2)))
+    (s .pre, sound-as certificates-judged (a .rows .now) (a .n) (a .m) (s .pre) (a .certificate .now) (called .check-certificate .result) (called .check-certificate .ensures) (c .before .if1 .left) exclusion (ap kindOf (c .match .keys2)))
 
 judge-lasso-requires : tie.Need-judge-lasso-requires
-unfolding certificate-reader kindOf
+unfolding certificate-check kindOf
 judge-lasso-requires c κs =
     let s = c .before .before .before .before .before .before .before in
     let a = s .args in
     let called = c .before .before .before .before in
     let zero = c .before .before .if1 .left in (
       s .pre,
-      sound-as is-certificate (a .rows .now) (a .n) (a .m) (s .pre) (a .certificate .now) (called .check-certificate .result) (called .check-certificate .ensures) zero lasso (ap kindOf (c .before .match .keys3)),
-      ms-told is-certificate (a .rows .now) (a .n) (a .m) (s .pre) (a .certificate .now) (called .check-certificate .result) (called .check-certificate .ensures) zero,
+      sound-as certificates-judged (a .rows .now) (a .n) (a .m) (s .pre) (a .certificate .now) (called .check-certificate .result) (called .check-certificate .ensures) zero lasso (ap kindOf (c .before .match .keys3)),
+      ms-told certificates-judged (a .rows .now) (a .n) (a .m) (s .pre) (a .certificate .now) (called .check-certificate .result) (called .check-certificate .ensures) zero,
     )
 
 same-length : tie.Need-same-length
@@ -79,15 +79,15 @@ refused-requires-2 c κs = search needs
 
 -- no other kind is left
 returns-5 : tie.Need-returns-5
-unfolding certificate-reader
+unfolding certificate-check
 returns-5 c =
     let s = c .before .before .before .before .before .before .before in
     let a = s .args in
     let called = c .before .before .before .before in
     let rest = c .before .match .rest in
     absurd
-    (no-other is-certificate (a .rows .now) (a .n) (a .m) (s .pre) (a .certificate .now) (called .check-certificate .result) (called .check-certificate .ensures) (c .before .before .if1 .left)
-    (no-certificate _ (rest .0 .0 .1) (rest .0 .1) (rest .1)))
+    (no-other certificates-judged (a .rows .now) (a .n) (a .m) (s .pre) (a .certificate .now) (called .check-certificate .result) (called .check-certificate .ensures) (c .before .before .if1 .left)
+    (unwanted-kind _ _ (λ e. absurd (rest .0 .0 .1 e)) (λ e. absurd (rest .0 .1 e)) (λ e. absurd (rest .1 e))))
 
 pub judge-sound-spec : {M : Type 1} → statement M
 judge-sound-spec =

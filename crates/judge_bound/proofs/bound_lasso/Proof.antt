@@ -5,12 +5,12 @@ use lib.IntN.{pos}
 use lib.ListN.{replicate}
 use borrow.Author.Tests.{not-true, not-false}
 use mir.Facts.{toZ-ofZ}
-use Rattle.record.specs.Layouts.{has-rank}
 use Rattle.judge.proofs.Sizes.{n-few, rows-in, lasso-long}
 use Rattle.judge_bound.proofs.ByKind.{state-small, lasso-refused, lasso-outside, lasso-ready, lasso-bounded}
 use borrow.Author.Needs.{needs, sfits-of}
 use Rattle.judge_bound.proofs.bound_lasso.Statement.{statement}
 use Rattle.judge_bound.proofs.bound_lasso.Tie as tie
+use Rattle.verdict.specs.Bounding.{certificates-bounded}
 
 slice-aggregate-lasso : tie.Need-slice-aggregate-lasso
 slice-aggregate-lasso c = search needs
@@ -18,7 +18,7 @@ slice-aggregate-lasso c = search needs
 lasso-requires : tie.Need-lasso-requires
 lasso-requires c κs =
     let s = c .before .before .before in
-    (rows-in _ _ _ (s .pre .0), lasso-long _ _ _ _ (s .pre .0) has-rank _ (s .pre .1) (s .pre .2), n-few _ _ _ (s .pre .0))
+    (rows-in _ _ _ (s .pre .0), lasso-long _ _ _ _ (s .pre .0) certificates-bounded _ (s .pre .1) (s .pre .2), n-few _ _ _ (s .pre .0))
 
 refused-requires : tie.Need-refused-requires
 refused-requires c κs = search needs
@@ -37,7 +37,7 @@ meets-invariant-requires c κs =
     let s = c .before .before .before .before .before .before .before in
     let a = s .args in
     let small = state-small (a .rows .now) (a .n) (a .m) (s .pre .0) (a .certificate .now) (a .state .now) (s .pre .3) in
-    (lasso-long _ _ _ _ (s .pre .0) has-rank _ (s .pre .1) (s .pre .2), s .pre .3 .long, λ i. omega (arith, small i))
+    (lasso-long _ _ _ _ (s .pre .0) certificates-bounded _ (s .pre .1) (s .pre .2), s .pre .3 .long, λ i. omega (arith, small i))
 
 refused-requires-2 : tie.Need-refused-requires-2
 refused-requires-2 c κs = search needs

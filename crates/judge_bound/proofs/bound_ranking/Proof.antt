@@ -4,12 +4,12 @@ use lib.IntN.{pos}
 use lib.ListN.{replicate}
 use borrow.Author.Tests.{not-true, not-false}
 use mir.Facts.{toZ-ofZ}
-use Rattle.record.specs.Layouts.{has-rank}
 use Rattle.judge.proofs.Sizes.{n-few, m-few, rows-in, ranking-long}
 use Rattle.judge_bound.proofs.ByKind.{ranking-refused, ranking-ready, ranking-bounded}
 use borrow.Author.Needs.{needs, sfits-of}
 use Rattle.judge_bound.proofs.bound_ranking.Statement.{statement}
 use Rattle.judge_bound.proofs.bound_ranking.Tie as tie
+use Rattle.verdict.specs.Bounding.{certificates-bounded}
 
 slice-aggregate-ranking : tie.Need-slice-aggregate-ranking
 slice-aggregate-ranking c = search needs
@@ -18,7 +18,7 @@ ranking-requires : tie.Need-ranking-requires
 ranking-requires c κs =
     let s = c .before .before .before in
     let l = s .pre .0 in
-    (rows-in _ _ _ l, n-few _ _ _ l, m-few _ _ _ l, ranking-long _ _ _ l has-rank _ (s .pre .1), n-few _ _ _ l)
+    (rows-in _ _ _ l, n-few _ _ _ l, m-few _ _ _ l, ranking-long _ _ _ l certificates-bounded _ (s .pre .1), n-few _ _ _ l)
 
 refused-requires : tie.Need-refused-requires
 refused-requires c κs = search needs

@@ -1,10 +1,10 @@
 -- `judge_bound::bound_sound` meets its contract: the certificate is checked, then the state; the kind leads to the conditions. Assumes nothing.
-use mathlib.Core.Path.{sym, ap, _∙_}
-use Rattle.record.specs.Layouts.{ranking, lasso, kindOf, has-rank}
-use Rattle.record_check.specs.Checks.{ranked-reader}
-use Rattle.record_check.proofs.Ranked.{no-rank}
+use mathlib.Core.Path.{refl, sym, ap, _∙_}
+use Rattle.record.specs.Layouts.{ranking, lasso, kindOf}
+use Rattle.record.proofs.KindLaws.{unwanted-kind}
+use Rattle.record_check.specs.Checks.{certificate-check}
 use lib.ListN.{length}
-use Rattle.verdict.specs.Bounding.{before-outside, bound-of}
+use Rattle.verdict.specs.Bounding.{before-outside, bound-of, certificates-bounded}
 use Rattle.verdict.specs.Pairs.{variables-of}
 use Rattle.judge_bound.specs.Told.{refusal-of, StateFits}
 use Rattle.judge.proofs.Entered.{certificate-refused, certificate-told, ms-told, no-other, sound-as}
@@ -13,36 +13,36 @@ use borrow.Author.Needs.{needs}
 use Rattle.judge_bound.proofs.bound_sound.Statement.{statement}
 use Rattle.judge_bound.proofs.bound_sound.Tie as tie
 
-check-ranked-requires : tie.Need-check-ranked-requires
-check-ranked-requires c κs = search needs
+check-certificate-requires : tie.Need-check-certificate-requires
+check-certificate-requires c κs = search needs
 
 refused-requires : tie.Need-refused-requires
 refused-requires c κs = search needs
 
 returns : tie.Need-returns
-unfolding bound-of ranked-reader
+unfolding bound-of certificate-check
 returns c =
     let called = c .before .before .before in
     let s = called .before .before .before in
     let a = s .args in
-    let v = called .check-ranked .result in
+    let v = called .check-certificate .result in
     let b = bound-of (a .rows .now) (a .certificate .now) (a .state .now) in
-    c .refused .ensures ∙ refused-so b 2 (v .number) (v .place) (at-certificate b (s .pre .told) _ _ (certificate-refused has-rank (a .rows .now) (a .n) (a .m) (s .pre) (a .certificate .now) v (called .check-ranked .ensures) (c .before .if1 .taken)))
+    c .refused .ensures ∙ refused-so b 2 (v .number) (v .place) (at-certificate b (s .pre .told) _ _ (certificate-refused certificates-bounded (a .rows .now) (a .n) (a .m) (s .pre) (a .certificate .now) v (called .check-certificate .ensures) (c .before .if1 .taken)))
 
 refused-requires-2 : tie.Need-refused-requires-2
 refused-requires-2 c κs = search needs
 
 returns-2 : tie.Need-returns-2
-unfolding bound-of variables-of ranked-reader
+unfolding bound-of variables-of certificate-check
 returns-2 c =
     let called = c .before .before .before .before in
     let s = called .before .before .before in
     let a = s .args in
-    let v = called .check-ranked .result in
+    let v = called .check-certificate .result in
     let b = bound-of (a .rows .now) (a .certificate .now) (a .state .now) in
     c .refused2 .ensures
     ∙ refused-so b 0 10 (length (a .state .now))
-    (at-count b (s .pre .told) (certificate-told has-rank (a .rows .now) (a .n) (a .m) (s .pre) (a .certificate .now) v (called .check-ranked .ensures) (c .before .before .if1 .left)) (λ e. c .before .if2 .taken (e ∙ sym (s .pre .n-is))))
+    (at-count b (s .pre .told) (certificate-told certificates-bounded (a .rows .now) (a .n) (a .m) (s .pre) (a .certificate .now) v (called .check-certificate .ensures) (c .before .before .if1 .left)) (λ e. c .before .if2 .taken (e ∙ sym (s .pre .n-is))))
 
 before-outside-requires : tie.Need-before-outside-requires
 before-outside-requires c κs = search needs
@@ -51,41 +51,41 @@ refused-requires-3 : tie.Need-refused-requires-3
 refused-requires-3 c κs = search needs
 
 returns-3 : tie.Need-returns-3
-unfolding bound-of variables-of ranked-reader
+unfolding bound-of variables-of certificate-check
 returns-3 c =
     let called = c .before .before .before .before .before .before in
     let s = called .before .before .before in
     let a = s .args in
-    let v = called .check-ranked .result in
+    let v = called .check-certificate .result in
     let b = bound-of (a .rows .now) (a .certificate .now) (a .state .now) in
     let inside = c .before .before .before-outside in
     let counted = c .before .before .before .if2 .left ∙ s .pre .n-is in
     c .refused3 .ensures
     ∙ ap (refusal-of 0 9) (inside .ensures)
     ∙ refused-so b 0 9 (before-outside (a .state .now))
-    (at-outside b (s .pre .told) (certificate-told has-rank (a .rows .now) (a .n) (a .m) (s .pre) (a .certificate .now) v (called .check-ranked .ensures) (c .before .before .before .before .if1 .left)) counted (λ e. c .before .if3 .taken (inside .ensures ∙ e)))
+    (at-outside b (s .pre .told) (certificate-told certificates-bounded (a .rows .now) (a .n) (a .m) (s .pre) (a .certificate .now) v (called .check-certificate .ensures) (c .before .before .before .before .if1 .left)) counted (λ e. c .before .if3 .taken (inside .ensures ∙ e)))
 
 bound-ranking-requires : tie.Need-bound-ranking-requires
-unfolding ranked-reader kindOf
+unfolding certificate-check kindOf
 bound-ranking-requires c κs =
     let called = c .before .before .before .before .before .before in
     let s = called .before .before .before in
     let a = s .args in
-    let v = called .check-ranked .result in
+    let v = called .check-certificate .result in
     let zero = c .before .before .before .before .if1 .left in
     let state : StateFits (a .state .now) (a .n) = record { long = c .before .before .before .if2 .left; inside = sym (c .before .before .before-outside .ensures) ∙ c .before .if3 .left } in
-    (s .pre, sound-as has-rank (a .rows .now) (a .n) (a .m) (s .pre) (a .certificate .now) v (called .check-ranked .ensures) zero ranking (ap kindOf (c .match .keys1)), state)
+    (s .pre, sound-as certificates-bounded (a .rows .now) (a .n) (a .m) (s .pre) (a .certificate .now) v (called .check-certificate .ensures) zero ranking (ap kindOf (c .match .keys1)), state)
 
 bound-lasso-requires : tie.Need-bound-lasso-requires
-unfolding ranked-reader kindOf
+unfolding certificate-check kindOf
 bound-lasso-requires c κs =
     let called = c .before .before .before .before .before .before in
     let s = called .before .before .before in
     let a = s .args in
-    let v = called .check-ranked .result in
+    let v = called .check-certificate .result in
     let zero = c .before .before .before .before .if1 .left in
     let state : StateFits (a .state .now) (a .n) = record { long = c .before .before .before .if2 .left; inside = sym (c .before .before .before-outside .ensures) ∙ c .before .if3 .left } in
-    (s .pre, sound-as has-rank (a .rows .now) (a .n) (a .m) (s .pre) (a .certificate .now) v (called .check-ranked .ensures) zero lasso (ap kindOf (c .match .keys2)), ms-told has-rank (a .rows .now) (a .n) (a .m) (s .pre) (a .certificate .now) v (called .check-ranked .ensures) zero, state)
+    (s .pre, sound-as certificates-bounded (a .rows .now) (a .n) (a .m) (s .pre) (a .certificate .now) v (called .check-certificate .ensures) zero lasso (ap kindOf (c .match .keys2)), ms-told certificates-bounded (a .rows .now) (a .n) (a .m) (s .pre) (a .certificate .now) v (called .check-certificate .ensures) zero, state)
 
 returns-4 : tie.Need-returns-4
 returns-4 c = search needs
@@ -98,7 +98,7 @@ refused-requires-4 c κs = search needs
 
 -- no other kind is left
 returns-6 : tie.Need-returns-6
-unfolding ranked-reader
+unfolding certificate-check
 returns-6 c =
     let called = c .before .before .before .before .before .before .before in
     let s = called .before .before .before in
@@ -106,14 +106,14 @@ returns-6 c =
     let zero = c .before .before .before .before .before .if1 .left in
     let rest = c .before .match .rest in
     absurd
-    (no-other has-rank (a .rows .now) (a .n) (a .m) (s .pre) (a .certificate .now) (called .check-ranked .result) (called .check-ranked .ensures) zero
-    (no-rank _ (rest .0 .1) (rest .1)))
+    (no-other certificates-bounded (a .rows .now) (a .n) (a .m) (s .pre) (a .certificate .now) (called .check-certificate .result) (called .check-certificate .ensures) zero
+    (unwanted-kind _ _ (λ e. absurd (rest .0 .1 e)) (λ e. refl) (λ e. absurd (rest .1 e))))
 
 pub bound-sound-spec : {M : Type 1} → statement M
 bound-sound-spec =
     tie.close
     (tie.spec
-    check-ranked-requires
+    check-certificate-requires
     refused-requires
     returns
     refused-requires-2
