@@ -18,8 +18,8 @@ use Rattle.record.specs.Ranges.{_to_, multipliers, within}
 use Rattle.record.specs.Readers as R
 use Rattle.record.specs.Readers.{Reader}
 use Rattle.record.proofs.FieldLaws.{number-stored, field-holds, length-values, value-at, in-range-at}
-use Rattle.record.proofs.Fits.{in-within}
-use Rattle.record.proofs.ReadThenWrite.{has-read}
+use Rattle.record.proofs.FittingValues.{in-within}
+use Rattle.record.proofs.SoundRecords.{has-read}
 
 -- of every field: a number in its range is stored and read back
 pub field-back : (f : Field) (z : ℤ) → In (f .range) z → number (f .form) (stored (f .form) z) ≡ z

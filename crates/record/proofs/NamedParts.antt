@@ -2,7 +2,7 @@
 -- exchanged in reader, writer and contents alike do not pass. What it is for them to be within the limits stands only before an arrow, so both ends of
 -- each range are shown to be in it, and a number past an end is shown not to be.
 use mathlib.Core.Path.{_≡_, refl}
-use Prim.Native.Nat.{ℕ, zero, suc}
+use Prim.Native.Nat.{zero, suc}
 use mathlib.Core.List.{List, [], _∷_}
 use native.Mathlib.Omega.{arith}
 use lib.IntN.{ℤ, pos}

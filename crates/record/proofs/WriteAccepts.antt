@@ -18,7 +18,7 @@ use Rattle.record.specs.Wants.{kinds-written}
 use Rattle.record.specs.Ranges.{rows, within}
 use Rattle.record.specs.Writers as W
 use Rattle.record.specs.Writers.{Writer, writing}
-use Rattle.record.proofs.Fits.{Fit, in-within, fit-none, fit-cons, fit-append, fit-same}
+use Rattle.record.proofs.FittingValues.{Fit, in-within, fit-none, fit-cons, fit-append, fit-same}
 
 fit-row : (n : ℕ) (r : Row) → Row-in n r → Fit (row n) (row-values r)
 unfolding row row-values entry right-side

@@ -17,7 +17,7 @@ use Rattle.record.specs.Ranges.{within}
 use Rattle.record.specs.Readers.{Reader, stated-length, kind-number, kind, counts-read, fields, list-start, count-list, list, arguments-fit, sound}
 use Rattle.record.proofs.Lengths.{length-law}
 use Rattle.record_fields.specs.Runs.{number-at, fits, fault}
-use Rattle.record_fields.proofs.Faults.{all-fit, not-all-fit, fault-within}
+use Rattle.record_fields.proofs.FirstFaults.{all-fit, not-all-fit, fault-within}
 use Rattle.record_check.specs.Checks.{refusal, checked, checks, framing, Framed, ended}
 use Rattle.record_check.proofs.FrameWays.{says}
 

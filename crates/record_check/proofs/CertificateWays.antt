@@ -14,7 +14,7 @@ use Rattle.record.specs.Readers.{Reader, kind-number, kind, counts-read, fields
 use Rattle.record.specs.Wants.{wants-of}
 use Rattle.record.proofs.KindLaws.{wanted-no-loop, wanted-known}
 use Rattle.record_fields.specs.Runs.{fault}
-use Rattle.record_fields.proofs.Faults.{fault-none}
+use Rattle.record_fields.proofs.FirstFaults.{fault-none}
 use Rattle.record_check.specs.Checks.{refusal, checks, certificate-check, Framed, ended}
 use Rattle.record_check.proofs.BodyWays.{unwanted, bad-arguments, bad-length, values-told}
 

@@ -14,7 +14,7 @@ use Rattle.record.specs.Ranges.{variables, rows, within}
 use Rattle.record.specs.Readers.{Reader, kind-number, kind, counts-read, fields, list-start, arguments-fit}
 use Rattle.record.specs.Wants.{wants-of}
 use Rattle.record_fields.specs.Runs.{fits, fault}
-use Rattle.record_fields.proofs.Faults.{fault-none, fault-next, fault-here}
+use Rattle.record_fields.proofs.FirstFaults.{fault-none, fault-next, fault-here}
 use Rattle.record_check.specs.Checks.{refusal, checks, certificate-check, Framed, ended}
 use Rattle.record_check.proofs.BodyWays.{no-counts, bad-count, bad-length, values-told, count-fits}
 

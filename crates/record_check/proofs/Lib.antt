@@ -3,4 +3,4 @@ pub mod BodyWays
 pub mod LoopWays
 pub mod CertificateWays
 pub mod LassoWays
-pub mod Answers
+pub mod CheckAnswers

@@ -1,7 +1,7 @@
-pub mod Faults
-pub mod Fits
+pub mod FirstFaults
+pub mod StoredInRange
 pub mod Walks
-pub mod Parts
+pub mod BodyParts
 pub mod Copies
 pub mod Forms
 pub mod Readings

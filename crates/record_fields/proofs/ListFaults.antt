@@ -12,7 +12,7 @@ use Rattle.refusal.proofs.TestLaws.{either}
 use Rattle.record.specs.Fields.{width, Field, widths, in-range, before-fault}
 use Rattle.record.specs.Ranges.{Range, within}
 use Rattle.record_fields.specs.Runs.{list-fault}
-use Rattle.record_fields.proofs.Faults.{before-next, before-here, before-all, before-some, before-within, before-pass, before-stop}
+use Rattle.record_fields.proofs.FirstFaults.{before-next, before-here, before-all, before-some, before-within, before-pass, before-stop}
 
 module _ (zs : List ℤ) where
   pub list-fault-none : (index place : ℕ) → list-fault [] zs index place ≡ place

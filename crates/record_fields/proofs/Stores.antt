@@ -20,7 +20,7 @@ use Rattle.record.proofs.Lengths.{widths-row}
 use Rattle.record_fields.specs.Runs.{stores, all-held}
 use Rattle.record_fields.proofs.Copies.{Copy, copy-start, copy-more, copy-end, sets-append}
 use Rattle.record_fields.proofs.Forms.{Formed, formed-replicate}
-use Rattle.record_fields.proofs.Parts.{length-row}
+use Rattle.record_fields.proofs.BodyParts.{length-row}
 
 -- ---- one form
 

@@ -11,7 +11,7 @@ use lib.ListN.{replicate}
 use Rattle.record.specs.Fields.{width, Field, widths}
 use Rattle.refusal.proofs.TestLaws.{both-true}
 use Rattle.record_fields.specs.Runs.{fits, all-fit, fault}
-use Rattle.record_fields.proofs.Faults.{fault-none, one-fits, one-out, stops, goes-on}
+use Rattle.record_fields.proofs.FirstFaults.{fault-none, one-fits, one-out, stops, goes-on}
 
 module _ (parts : ℕ → List Field) (wide : ℕ) (bytes : List ℕ) (place count : ℕ) where
   pub record Walk (at left : ℕ) : Type 0 where

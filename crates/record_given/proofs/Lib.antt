@@ -1,2 +1,3 @@
-pub mod Ways
-pub mod Answers
+pub mod CountingWays
+pub mod SettlingWays
+pub mod SettledAnswers

@@ -7,7 +7,7 @@ use Rattle.record.specs.Fields.{u16, width, widths, values}
 use Rattle.record.specs.Layouts.{other, kindOf, is-loop, Counts, variable-count, row-count, multiplier, scale, direction, rowsOf, counts, layout, ahead, listed}
 use Rattle.record_fields.specs.Runs.{linear, weights, numbers}
 use Rattle.record_fields.proofs.Forms.{values-run}
-use Rattle.record_fields.proofs.Parts.{ranking-is, exclusion-is, lasso-is}
+use Rattle.record_fields.proofs.BodyParts.{ranking-is, exclusion-is, lasso-is}
 use Rattle.record_read.specs.Unpacks.{list-of}
 
 module _ (bytes : List ℕ) (kind : ℕ) (c : Counts) where

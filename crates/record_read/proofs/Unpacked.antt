@@ -17,10 +17,11 @@ use Rattle.record.proofs.FieldLaws.{length-values}
 use Rattle.record_fields.specs.Runs.{value-count}
 use Rattle.record.proofs.KindLaws.{no-loop}
 use Rattle.record_fields.proofs.Copies.{sets-front}
-use Rattle.record_fields.proofs.Parts.{count-law}
+use Rattle.record_fields.proofs.BodyParts.{count-law}
 use Rattle.record_check.specs.declared.Checked.{Checked}
 use Rattle.record_check.specs.Checks.{checked, checks}
-use Rattle.record_check.proofs.Answers.{accepted, accepted-is, refused-so, sound-record, counts-small}
+use Rattle.record.proofs.SoundRecords.{counts-small}
+use Rattle.record_check.proofs.CheckAnswers.{accepted, accepted-is, refused-so, sound-record}
 use Rattle.record_read.specs.Unpacks.{refusal, list-of, counts-of, Sized, unpacked, unpacks}
 
 -- ---- the ways through `unpack`

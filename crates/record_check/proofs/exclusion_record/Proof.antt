@@ -4,8 +4,8 @@ use Prim.Native.Nat.{_≤_}
 use native.Mathlib.Omega.{arith}
 use Rattle.record.specs.Layouts.{exclusion, kindOf, is-lasso, counts, lengthOf}
 use Rattle.record_fields.specs.Runs.{fault}
-use Rattle.record_fields.proofs.Fits.{arguments-most}
-use Rattle.record_fields.proofs.Parts.{exclusion-is}
+use Rattle.record.proofs.CountLimits.{arguments-most}
+use Rattle.record_fields.proofs.BodyParts.{exclusion-is}
 use Rattle.record_check.proofs.CertificateWays.{plain-length, plain-values}
 use borrow.Author.Needs.{needs}
 use Rattle.record_check.proofs.exclusion_record.Statement.{statement}

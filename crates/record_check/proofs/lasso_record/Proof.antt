@@ -9,8 +9,8 @@ use borrow.Author.Tests.{not-true, not-false}
 use Rattle.record.specs.Layouts.{lengthOf}
 use Rattle.record.specs.Ranges.{rows, within}
 use Rattle.record_fields.specs.Runs.{fault}
-use Rattle.record_fields.proofs.Fits.{rows-most, arguments-most}
-use Rattle.record_fields.proofs.Parts.{lasso-is}
+use Rattle.record.proofs.CountLimits.{rows-most, arguments-most}
+use Rattle.record_fields.proofs.BodyParts.{lasso-is}
 use Rattle.record_check.proofs.LassoWays.{lasso-short, lasso-ms, lasso-length, lasso-values}
 use borrow.Author.Needs.{needs}
 use Rattle.record_check.proofs.lasso_record.Statement.{statement}

@@ -7,7 +7,7 @@ use native.Mathlib.Omega.{arith}
 use lib.IntN.{pos}
 use borrow.Author.Tests.{not-true, not-false}
 use Rattle.record.specs.Ranges.{variables, rows, within}
-use Rattle.record_fields.proofs.Fits.{variables-most, rows-most}
+use Rattle.record.proofs.CountLimits.{variables-most, rows-most}
 use Rattle.record_check.proofs.LoopWays.{loop-short, loop-n, loop-m, loop-length, loop-values}
 use borrow.Author.Needs.{needs}
 use Rattle.record_check.proofs.loop_record.Statement.{statement}

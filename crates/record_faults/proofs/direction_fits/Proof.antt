@@ -1,5 +1,5 @@
 -- `record_faults::direction_fits` meets its contract. Assumes nothing.
-use Rattle.record_fields.proofs.Fits.{direction-fits}
+use Rattle.record_fields.proofs.StoredInRange.{direction-fits}
 use borrow.Author.Needs.{needs}
 use Rattle.record_faults.proofs.direction_fits.Statement.{statement}
 use Rattle.record_faults.proofs.direction_fits.Tie as tie

@@ -1,5 +1,5 @@
 -- `record_faults::entry_fits` meets its contract. Assumes nothing.
-use Rattle.record_fields.proofs.Fits.{entry-fits}
+use Rattle.record_fields.proofs.StoredInRange.{entry-fits}
 use borrow.Author.Needs.{needs}
 use Rattle.record_faults.proofs.entry_fits.Statement.{statement}
 use Rattle.record_faults.proofs.entry_fits.Tie as tie

@@ -5,7 +5,7 @@ use lib.ListN.{replicate}
 use Prim.Native.Nat.{_*_}
 use Rattle.record.specs.Fields.{width, widths}
 use Rattle.record.specs.Layouts.{scale, direction}
-use Rattle.record_fields.proofs.Faults.{stops, goes-on}
+use Rattle.record_fields.proofs.FirstFaults.{stops, goes-on}
 use borrow.Author.Needs.{needs}
 use Rattle.record_faults.proofs.exclusion_fault.Statement.{statement}
 use Rattle.record_faults.proofs.exclusion_fault.Tie as tie

@@ -5,8 +5,8 @@ use mathlib.Core.List.{_++_}
 use Rattle.record.specs.Layouts.{rowsOf}
 use Rattle.record.proofs.Lengths.{widths-rows}
 use Rattle.record_fields.specs.Runs.{fault, linear, weights}
-use Rattle.record_fields.proofs.Faults.{stops, goes-on}
-use Rattle.record_fields.proofs.Parts.{widths-linear, widths-weights}
+use Rattle.record_fields.proofs.FirstFaults.{stops, goes-on}
+use Rattle.record_fields.proofs.BodyParts.{widths-linear, widths-weights}
 use borrow.Author.Needs.{needs}
 use Rattle.record_faults.proofs.lasso_fault.Statement.{statement}
 use Rattle.record_faults.proofs.lasso_fault.Tie as tie

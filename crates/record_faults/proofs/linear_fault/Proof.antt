@@ -7,7 +7,7 @@ use Rattle.record.specs.Fields.{width}
 use Rattle.record.specs.Layouts.{entry, right-side}
 use Rattle.record.proofs.Lengths.{widths-replicate}
 use Rattle.record_fields.specs.Runs.{linear}
-use Rattle.record_fields.proofs.Faults.{stops, goes-on}
+use Rattle.record_fields.proofs.FirstFaults.{stops, goes-on}
 use borrow.Author.Needs.{needs}
 use Rattle.record_faults.proofs.linear_fault.Statement.{statement}
 use Rattle.record_faults.proofs.linear_fault.Tie as tie

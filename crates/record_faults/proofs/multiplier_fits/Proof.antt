@@ -1,6 +1,6 @@
 -- `record_faults::multiplier_fits` meets its contract. Assumes nothing.
 use mathlib.Core.Path.{_∙_}
-use Rattle.record_fields.proofs.Fits.{multiplier-fits}
+use Rattle.record_fields.proofs.StoredInRange.{multiplier-fits}
 use borrow.Author.Needs.{needs}
 use Rattle.record_faults.proofs.multiplier_fits.Statement.{statement}
 use Rattle.record_faults.proofs.multiplier_fits.Tie as tie

@@ -1,5 +1,5 @@
 -- `record_faults::right_side_fits` meets its contract. Assumes nothing.
-use Rattle.record_fields.proofs.Fits.{right-side-fits}
+use Rattle.record_fields.proofs.StoredInRange.{right-side-fits}
 use borrow.Author.Needs.{needs}
 use Rattle.record_faults.proofs.right_side_fits.Statement.{statement}
 use Rattle.record_faults.proofs.right_side_fits.Tie as tie

@@ -8,7 +8,7 @@ use borrow.Author.Needs.{needs}
 use Rattle.record.specs.Layouts.{row, rowsOf}
 use Rattle.record.proofs.Lengths.{widths-row}
 use Rattle.record_fields.specs.Runs.{fault}
-use Rattle.record_fields.proofs.Parts.{row-is}
+use Rattle.record_fields.proofs.BodyParts.{row-is}
 use Rattle.record_fields.proofs.Walks.{Walk, walk-start, walk-more, walk-here, walk-end}
 use Rattle.record_faults.proofs.rows_fault.Statement.{statement}
 use Rattle.record_faults.proofs.rows_fault.Tie as tie

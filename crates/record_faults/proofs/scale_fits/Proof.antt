@@ -1,6 +1,6 @@
 -- `record_faults::scale_fits` meets its contract. Assumes nothing.
 use mathlib.Core.Path.{_∙_}
-use Rattle.record_fields.proofs.Fits.{scale-fits}
+use Rattle.record_fields.proofs.StoredInRange.{scale-fits}
 use borrow.Author.Needs.{needs}
 use Rattle.record_faults.proofs.scale_fits.Statement.{statement}
 use Rattle.record_faults.proofs.scale_fits.Tie as tie

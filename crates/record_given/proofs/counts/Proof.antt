@@ -5,7 +5,7 @@ use Rattle.record.specs.Layouts.{kindOf, is-loop, is-lasso}
 use Rattle.record.specs.Wants.{kinds-written}
 use Rattle.record.specs.Writers.{kind, writer}
 use Rattle.record.proofs.KindLaws.{other-kind}
-use Rattle.record_given.proofs.Ways.{unknown}
+use Rattle.record_given.proofs.CountingWays.{unknown}
 use borrow.Author.Needs.{needs}
 use Rattle.record_given.proofs.counts.Statement.{statement}
 use Rattle.record_given.proofs.counts.Tie as tie

@@ -12,8 +12,8 @@ use Rattle.record.specs.Layouts.{kindOf, is-loop, is-lasso}
 use Rattle.record.specs.Wants.{kinds-written}
 use Rattle.record.specs.Ranges.{_to_, rows, within}
 use Rattle.record.specs.Writers.{kind, ms-given, writer}
-use Rattle.record_fields.proofs.Fits.{rows-cast}
-use Rattle.record_given.proofs.Ways.{certificate-arguments, no-ms, bad-ms, lasso-counted}
+use Rattle.record.proofs.CountLimits.{rows-cast}
+use Rattle.record_given.proofs.CountingWays.{certificate-arguments, no-ms, bad-ms, lasso-counted}
 use borrow.Author.Needs.{needs}
 use Rattle.record_given.proofs.lasso_counts.Statement.{statement}
 use Rattle.record_given.proofs.lasso_counts.Tie as tie

@@ -1,7 +1,7 @@
 -- `record_given::loop_counts` meets its contract. Assumes nothing.
 use mathlib.Core.Path.{sym, _∙_}
 use borrow.Author.Tests.{not-true, not-false}
-use Rattle.record_given.proofs.Ways.{loop-n, loop-m, loop-counted}
+use Rattle.record_given.proofs.CountingWays.{loop-n, loop-m, loop-counted}
 use borrow.Author.Needs.{needs}
 use Rattle.record_given.proofs.loop_counts.Statement.{statement}
 use Rattle.record_given.proofs.loop_counts.Tie as tie

@@ -1,6 +1,6 @@
 -- `record_given::plain_counts` meets its contract. Assumes nothing.
 use mathlib.Core.Path.{sym, _∙_}
-use Rattle.record_given.proofs.Ways.{plain-counted, certificate-arguments}
+use Rattle.record_given.proofs.CountingWays.{plain-counted, certificate-arguments}
 use borrow.Author.Needs.{needs}
 use Rattle.record_given.proofs.plain_counts.Statement.{statement}
 use Rattle.record_given.proofs.plain_counts.Tie as tie

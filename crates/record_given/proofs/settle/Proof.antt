@@ -11,7 +11,7 @@ use Rattle.record.specs.Writers.{Writer, kind, counts-given, fields, length-sta
 use Rattle.record.proofs.Lengths.{length-most}
 use Rattle.record_fields.specs.Runs.{value-count, list-fault}
 use Rattle.record_given.specs.Settled.{counting}
-use Rattle.record_given.proofs.Ways.{pass-on, all-counted, counted-is, counts-told, counts-small, wrong-count, bad-value, all-settled}
+use Rattle.record_given.proofs.SettlingWays.{pass-on, all-counted, counted-is, counts-told, counts-small, wrong-count, bad-value, all-settled}
 use borrow.Author.Needs.{needs}
 use Rattle.record_given.proofs.settle.Statement.{statement}
 use Rattle.record_given.proofs.settle.Tie as tie

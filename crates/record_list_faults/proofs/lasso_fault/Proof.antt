@@ -8,7 +8,7 @@ use Rattle.record.specs.Ranges.{_to_, rows}
 use Rattle.record.proofs.Lengths.{widths-rows}
 use Rattle.record_fields.specs.Runs.{linear, weights, list-fault}
 use Rattle.record_fields.proofs.ListFaults.{list-stops, list-goes-on}
-use Rattle.record_fields.proofs.Parts.{widths-linear, widths-weights, length-rows, length-linear, length-weights}
+use Rattle.record_fields.proofs.BodyParts.{widths-linear, widths-weights, length-rows, length-linear, length-weights}
 use borrow.Author.Needs.{needs}
 use Rattle.record_list_faults.proofs.lasso_fault.Statement.{statement}
 use Rattle.record_list_faults.proofs.lasso_fault.Tie as tie

@@ -9,7 +9,7 @@ use Rattle.record.specs.Layouts.{row, rowsOf}
 use Rattle.record.proofs.Lengths.{widths-row}
 use Rattle.record_fields.specs.Runs.{list-fault}
 use Rattle.record_fields.proofs.ListFaults.{ListWalk, list-walk-start, list-walk-more, list-walk-here, list-walk-end}
-use Rattle.record_fields.proofs.Parts.{row-is, length-row}
+use Rattle.record_fields.proofs.BodyParts.{row-is, length-row}
 use Rattle.record_list_faults.proofs.rows_fault.Statement.{statement}
 use Rattle.record_list_faults.proofs.rows_fault.Tie as tie
 

@@ -10,7 +10,7 @@ use Rattle.record.specs.Ranges.{_to_, multipliers}
 use Rattle.record_fields.specs.Runs.{value-count, list-fault}
 use Rattle.record.proofs.KindLaws.{other-kind}
 use Rattle.record_fields.proofs.ListFaults.{list-fault-none}
-use Rattle.record_fields.proofs.Parts.{ranking-is, exclusion-is, lasso-is}
+use Rattle.record_fields.proofs.BodyParts.{ranking-is, exclusion-is, lasso-is}
 use Rattle.record_list_faults.proofs.values_fault.Statement.{statement}
 use Rattle.record_list_faults.proofs.values_fault.Tie as tie
 

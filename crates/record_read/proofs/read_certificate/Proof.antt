@@ -1,7 +1,7 @@
 -- `record_read::read_certificate` meets its contract. Assumes nothing.
 use mathlib.Core.Path.{refl, _∙_}
 use Rattle.record.specs.Readers.{certificate-reader}
-use Rattle.record_check.proofs.Answers.{certificate-any-room}
+use Rattle.record_check.proofs.CheckAnswers.{certificate-any-room}
 use Rattle.record_read.proofs.Unpacked.{sized, unpack-reads}
 use borrow.Author.Needs.{needs}
 use Rattle.record_read.proofs.read_certificate.Statement.{statement}

@@ -9,7 +9,7 @@ use Rattle.record.specs.Layouts.{row-count, rowsOf}
 use Rattle.record.proofs.Lengths.{widths-rows}
 use Rattle.record_fields.specs.Runs.{linear, weights}
 use Rattle.record_fields.proofs.Forms.{values-run, weights-numbers}
-use Rattle.record_fields.proofs.Parts.{widths-linear, length-linear, length-rows}
+use Rattle.record_fields.proofs.BodyParts.{widths-linear, length-linear, length-rows}
 use Rattle.record_fields.proofs.Readings.{read-both}
 use borrow.Author.Needs.{needs}
 use Rattle.record_read.proofs.read_lasso.Statement.{statement}

@@ -1,7 +1,7 @@
 -- `record_read::read_loop` meets its contract. Assumes nothing.
 use mathlib.Core.Path.{refl, _∙_}
 use Rattle.record.specs.Readers.{loop-reader}
-use Rattle.record_check.proofs.Answers.{loop-any-room}
+use Rattle.record_check.proofs.CheckAnswers.{loop-any-room}
 use Rattle.record_read.proofs.Unpacked.{sized, unpack-reads}
 use borrow.Author.Needs.{needs}
 use Rattle.record_read.proofs.read_loop.Statement.{statement}

@@ -10,7 +10,7 @@ use Rattle.record.specs.Fields.{values as held}
 use Rattle.record.specs.Layouts.{row, rowsOf}
 use Rattle.record.proofs.FieldLaws.{length-values}
 use Rattle.record_fields.proofs.Copies.{Copy, copy-start, copy-more, copy-end}
-use Rattle.record_fields.proofs.Parts.{row-is, length-row}
+use Rattle.record_fields.proofs.BodyParts.{row-is, length-row}
 use Rattle.record_fields.proofs.Readings.{read-row}
 use Rattle.record_read.proofs.read_rows.Statement.{statement}
 use Rattle.record_read.proofs.read_rows.Tie as tie

@@ -7,7 +7,7 @@ use lib.Seq.{sets}
 use Rattle.record.specs.Layouts.{kindOf, lengthOf}
 use Rattle.record_fields.specs.Runs.{value-count}
 use Rattle.record.proofs.KindLaws.{other-kind}
-use Rattle.record_write.proofs.Bytes.{bytes-1, bytes-2, bytes-3, bytes-4, bytes-other, fit-1, fit-2, fit-3, fit-4}
+use Rattle.record_write.proofs.BodyBytes.{bytes-1, bytes-2, bytes-3, bytes-4, bytes-other, fit-1, fit-2, fit-3, fit-4}
 use borrow.Author.Needs.{needs}
 use Rattle.record_write.proofs.write_body.Statement.{statement}
 use Rattle.record_write.proofs.write_body.Tie as tie

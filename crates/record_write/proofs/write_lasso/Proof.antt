@@ -11,7 +11,7 @@ use Rattle.record.specs.Layouts.{row-count, rowsOf}
 use Rattle.record.proofs.Lengths.{widths-rows}
 use Rattle.record_fields.specs.Runs.{linear, weights}
 use Rattle.record_fields.proofs.Forms.{weights-formed, weights-count}
-use Rattle.record_fields.proofs.Parts.{widths-linear, length-linear, length-rows}
+use Rattle.record_fields.proofs.BodyParts.{widths-linear, length-linear, length-rows}
 use Rattle.record_fields.proofs.Stores.{bytes-formed, held-formed, bytes-run, held-run, in-range-both, write-both}
 use borrow.Author.Needs.{needs}
 use Rattle.record_write.proofs.write_lasso.Statement.{statement}

@@ -5,9 +5,9 @@ use native.Mathlib.Omega.{arith}
 use Rattle.record.specs.Layouts.{kindOf}
 use Rattle.record.specs.Writers.{kind, writer}
 use Rattle.record.proofs.Lengths.{length-most}
-use Rattle.record_given.proofs.Answers.{Settled, says}
-use Rattle.record_given.proofs.Ways.{any-room}
-use Rattle.record_write.proofs.Ways.{pass-on, no-room, ready, written}
+use Rattle.record_given.proofs.SettledAnswers.{Settled, says}
+use Rattle.record_given.proofs.SettlingWays.{any-room}
+use Rattle.record_write.proofs.WritingWays.{pass-on, no-room, ready, written}
 use borrow.Author.Needs.{needs}
 use Rattle.record_write.proofs.write_record.Statement.{statement}
 use Rattle.record_write.proofs.write_record.Tie as tie

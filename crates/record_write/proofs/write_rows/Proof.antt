@@ -7,7 +7,7 @@ use lib.ListN.{length, drop}
 use lib.Seq.{sets}
 use borrow.Author.Needs.{needs}
 use Rattle.record.specs.Fields.{bytesOf}
-use Rattle.record_fields.proofs.Parts.{row-is}
+use Rattle.record_fields.proofs.BodyParts.{row-is}
 use Rattle.record_fields.proofs.Stores.{StoringRows, rows-start, row-fits, rows-more, rows-end}
 use Rattle.record_write.proofs.write_rows.Statement.{statement}
 use Rattle.record_write.proofs.write_rows.Tie as tie

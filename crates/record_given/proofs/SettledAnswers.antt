@@ -12,10 +12,10 @@ use Rattle.record.specs.Layouts.{is-known}
 use Rattle.record.specs.Writers.{Writer, kind, counts-given, fields, writing}
 use Rattle.record.proofs.KindLaws.{written-known}
 use Rattle.record_fields.specs.Runs.{value-count}
-use Rattle.record_fields.proofs.Parts.{count-law}
+use Rattle.record_fields.proofs.BodyParts.{count-law}
 use Rattle.record_given.specs.declared.Given.{Given}
 use Rattle.record_given.specs.Settled.{given, counting, settling, settled}
-use Rattle.record_given.proofs.Ways.{number-told, counts-small}
+use Rattle.record_given.proofs.SettlingWays.{number-told, counts-small}
 
 -- what came to a writer makes a record
 pub record Settled (w : Writer) (v : Given) : Type 0 where

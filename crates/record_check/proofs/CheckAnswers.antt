@@ -1,23 +1,16 @@
 -- How a caller uses the answer v of a check of the record that a reader r gets: `accepted` and `refused-so` say what number 0 and any other
--- number mean for 01's order, `sound-record` gives what every test says of a sound record, `counts-small` bounds its counts, and
--- `loop-any-room` and `certificate-any-room` carry an answer over to a reader that has a list.
+-- number mean for 01's order, `sound-record` gives what every test says of a sound record, and `loop-any-room`
+-- and `certificate-any-room` carry an answer over to a reader that has a list.
 use mathlib.Core.Path.{_≡_, refl, sym, ap, _∙_}
-use Prim.Native.Nat.{ℕ, _≤_}
-use mathlib.Core.Bool.{true, _&&_}
+use Prim.Native.Nat.{ℕ}
+use mathlib.Core.Bool.{true}
 use mathlib.Core.List.{List, []}
-use native.Mathlib.Omega.{arith}
-use lib.IntN.{ℤ, pos}
+use lib.IntN.{ℤ}
 use lib.ListN.{length}
-use lib.Seq.{drop-drop}
-use Rattle.endian.specs.Numbers.{littleAt}
 use Rattle.refusal.specs.Tests.{Told, done, refused, first, number as number-of}
-use Rattle.refusal.proofs.TestLaws.{zero-done, both-true}
-use Rattle.record.specs.Fields.{width, number, values, in-range}
-use Rattle.record.specs.Layouts.{Kind, loop, ranking, exclusion, lasso, other, is-loop, is-lasso, variable-count, row-count, counts}
-use Rattle.record.specs.Ranges.{variables, rows, within}
+use Rattle.refusal.proofs.TestLaws.{zero-done}
 use Rattle.record.specs.Readers.{Reader, stated-length, kind-number, kind, counts-read, fields, list-start, count-list, list, arguments-fit, sound, loop-reader, certificate-reader}
-use Rattle.record.proofs.ReadThenWrite.{Sound, sound-says}
-use Rattle.record_fields.proofs.Fits.{variables-most, rows-most, arguments-most}
+use Rattle.record.proofs.SoundRecords.{Sound, sound-says}
 use Rattle.record_check.specs.declared.Checked.{Checked}
 use Rattle.record_check.specs.Checks.{checked, checks, certificate-check}
 
@@ -45,25 +38,6 @@ module _ (r : Reader) (v : Checked) (is : v ≡ checks r) where
 
   pub sound-record : v .number ≡ 0 → Sound r
   sound-record zero = sound-says r (accepted zero)
-
-pub counts-small : (r : Reader) → Sound r → (counts-read r .n ≤ 16) × (counts-read r .m ≤ 64) × (counts-read r .ms ≤ 64)
-unfolding counts-read kind counts is-loop is-lasso in-range values variable-count row-count width number littleAt count-list arguments-fit
-counts-small r s = by-kind (kind r) refl (s .arguments) (s .counts-fit)
-  where
-    by-kind : (k : Kind) → kind r ≡ k → arguments-fit r ≡ true → in-range (counts (kind r)) (count-list r) ≡ true
-        → (counts-read r .n ≤ 16) × (counts-read r .m ≤ 64) × (counts-read r .ms ≤ 64)
-    by-kind loop e a c =
-        let n = littleAt 2 (r .bytes) 6 in
-        let m = littleAt 2 (r .bytes) 8 in
-        let both = both-true (within variables (pos n)) (within rows (pos m) && true) (rw (e, drop-drop) at c) in
-        rw e (variables-most n (both .0), rows-most m (both-true (within rows (pos m)) true (both .1) .0), omega arith)
-    by-kind ranking e a c = let most = arguments-most (r .n) (r .m) (rw e at a) in rw e (most .0, most .1, omega arith)
-    by-kind exclusion e a c = let most = arguments-most (r .n) (r .m) (rw e at a) in rw e (most .0, most .1, omega arith)
-    by-kind lasso e a c =
-        let most = arguments-most (r .n) (r .m) (rw e at a) in
-        let ms = littleAt 2 (r .bytes) 6 in
-        rw e (most .0, most .1, rows-most ms (both-true (within rows (pos ms)) true (rw e at c) .0))
-    by-kind other e a c = let most = arguments-most (r .n) (r .m) (rw e at a) in rw e (most .0, most .1, omega arith)
 
 -- a check has no list, and its answer is the same for every list
 other-room : Reader → ℕ → Reader

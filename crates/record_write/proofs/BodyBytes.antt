@@ -14,7 +14,7 @@ use Rattle.record.specs.Layouts.{Kind, loop, ranking, exclusion, lasso, other, 
 use Rattle.record.proofs.Lengths.{length-law}
 use Rattle.record_fields.specs.Runs.{linear, weights, stores, all-held}
 use Rattle.record_fields.proofs.Copies.{sets-front}
-use Rattle.record_fields.proofs.Parts.{count-law, ranking-is, exclusion-is, lasso-is}
+use Rattle.record_fields.proofs.BodyParts.{count-law, ranking-is, exclusion-is, lasso-is}
 use Rattle.record_fields.proofs.Stores.{bytes-run, held-run, length-bytes}
 use Rattle.record_write.specs.Bodies.{body-bytes, Fitting}
 

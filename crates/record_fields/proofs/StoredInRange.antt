@@ -6,16 +6,14 @@ use mathlib.Core.List.{List}
 use native.Mathlib.Decide.{decLe, decLt}
 use native.Mathlib.Nat.{mod-eq-of-lt, add-mod-right}
 use native.Mathlib.Omega.{arith}
-use lib.Dec.{T, leb}
-use lib.IntN.{ℤ, pos, negsuc, natAbs}
-use lib.Signed.{nonNeg}
-use borrow.Author.Tests.{le-leb, lt-leb, leb-true}
+use lib.Dec.{leb}
+use lib.IntN.{pos}
+use borrow.Author.Tests.{le-leb, lt-leb}
 use Rattle.endian.specs.Numbers.{littleAt, signed}
 use Rattle.endian.proofs.Laws.{signed-low, signed-high}
-use Rattle.refusal.proofs.TestLaws.{both-true}
 use Rattle.record.specs.Fields.{width, number}
 use Rattle.record.specs.Layouts.{entry, right-side, multiplier, scale, direction}
-use Rattle.record.specs.Ranges.{_to_, either-way, variables, rows, entries, right-sides, multipliers, scales, directions, within}
+use Rattle.record.specs.Ranges.{_to_, either-way, entries, right-sides, multipliers, scales, directions, within}
 use Rattle.record_fields.specs.Runs.{number-at, fits}
 
 -- two comparisons that hold together
@@ -74,24 +72,3 @@ module _ (bytes : List ℕ) (place x : ℕ) where
   pub scale-fits : x ≡ littleAt 2 bytes place → within (1 to 60000) (pos x) ≡ fits scale bytes place
   unfolding fits number-at number width scale scales littleAt
   scale-fits read = rw (← read)
-
--- ---- counts in range are small
-
-pub variables-most : (n : ℕ) → within variables (pos n) ≡ true → n ≤ 16
-unfolding within _to_ variables
-variables-most n h = leb-true n 16 (both-true (leb 1 n) (leb n 16) h .1)
-
-pub rows-most : (m : ℕ) → within rows (pos m) ≡ true → m ≤ 64
-unfolding within _to_ rows
-rows-most m h = leb-true m 64 (both-true (leb 0 m) (leb m 64) h .1)
-
-pub arguments-most : (n m : ℕ) → (within variables (pos n) && within rows (pos m)) ≡ true → (n ≤ 16) × (m ≤ 64)
-arguments-most n m h =
-    let both = both-true (within variables (pos n)) (within rows (pos m)) h in
-    (variables-most n (both .0), rows-most m (both .1))
-
--- a value that is a count of rows
-pub rows-cast : (z : ℤ) → within rows z ≡ true → T (nonNeg z) × (natAbs z ≤ 64)
-unfolding within _to_ rows
-rows-cast (pos k) h = (tt, rows-most k h)
-rows-cast (negsuc k) h = let wrong : _≡_ {A = ℕ} 0 1 = cc in absurd (omega arith)
