@@ -5,11 +5,11 @@ use mathlib.Core.Bool.{Bool, true, false, false≢true}
 use mathlib.Core.List.{List, []}
 use Rattle.record.specs.Layouts.{Kind, kindOf}
 use Rattle.record.specs.Readers.{Reader, kind, kind-number, counts-read, sound, loop-reader}
-use Rattle.record.proofs.ReadThenWrite.{sound-says}
+use Rattle.record.proofs.SoundRecords.{sound-says}
 use Rattle.refusal.specs.Tests.{done, refused, first}
 use Rattle.record_check.specs.Checks.{checked, checks}
 use Rattle.record_check.specs.declared.Checked.{Checked}
-use Rattle.record_check.proofs.Answers as Answers
+use Rattle.record_check.proofs.CheckAnswers as Answers
 use Rattle.verdict.specs.Pairs.{loop-record, certificate-record}
 use Rattle.judge.specs.Told.{LoopSound, CertificateSound}
 

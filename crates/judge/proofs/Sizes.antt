@@ -8,8 +8,7 @@ use lib.ListN.{length}
 use Rattle.record.specs.Layouts.{Kind, loop, ranking, exclusion, lasso, is-loop, lengthOf}
 use Rattle.record.specs.Readers.{Reader, kind, counts-read, stated-length}
 use Rattle.record.proofs.KindLaws.{loop-only}
-use Rattle.record.proofs.ReadThenWrite.{Sound, sound-says, arguments-read}
-use Rattle.record_check.proofs.Answers.{counts-small}
+use Rattle.record.proofs.SoundRecords.{Sound, sound-says, arguments-read, counts-small}
 use Rattle.judge_sums.specs.Places.{RowsIn, MultipliersIn}
 use Rattle.judge_conditions.specs.Held.{LassoIn}
 use Rattle.verdict.specs.Pairs.{loop-record, certificate-record}

@@ -13,7 +13,7 @@ use Rattle.whole.proofs.Compare.{true-le}
 use Rattle.whole.proofs.Solve.{v, neg, solve-lt, lt-fact}
 use Rattle.record.specs.Layouts.{Kind, ranking, lasso, is-loop, is-lasso}
 use Rattle.record.specs.Readers.{counts-read}
-use Rattle.record.proofs.ReadThenWrite.{sound-says}
+use Rattle.record.proofs.SoundRecords.{sound-says}
 use Rattle.refusal.specs.Tests.{refused, first}
 use Rattle.refusal.proofs.TestLaws.{either, failed}
 use Rattle.whole.proofs.Tables.{length-tabulate}

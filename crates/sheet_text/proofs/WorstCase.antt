@@ -17,7 +17,7 @@ use Rattle.record.specs.Readers as R
 use Rattle.record.specs.Readers.{Reader, sound}
 use Rattle.record.proofs.KindLaws.{loop-only, loop-known, wanted-known}
 use Rattle.record.specs.Wants.{wants-of}
-use Rattle.record.proofs.ReadThenWrite.{Sound, sound-says}
+use Rattle.record.proofs.SoundRecords.{Sound, sound-says}
 use Rattle.refusal.specs.Tests.{Told, done, refused, first}
 use Rattle.theory.specs.Loops.{Loop}
 use Rattle.theory.specs.Rankings as Rankings

@@ -15,7 +15,7 @@ use Rattle.record.specs.Contents.{In}
 use Rattle.record.specs.Layouts.{ranking, lasso, is-lasso}
 use Rattle.record.specs.Ranges.{state-entries, within}
 use Rattle.record.specs.Readers.{sound}
-use Rattle.record.proofs.Fits.{in-within, within-in}
+use Rattle.record.proofs.FittingValues.{in-within, within-in}
 use Rattle.refusal.specs.Tests.{done, first}
 use Rattle.refusal.proofs.TestLaws.{passes-done, done-passes, zero-done, either}
 use Rattle.theory.specs.Lassos as Lassos

@@ -17,7 +17,7 @@ use Rattle.record.specs.Layouts.{ranking, exclusion, lasso}
 use Rattle.record.specs.Ranges.{_to_, multipliers, scales}
 use Rattle.record.specs.Readers.{counts-read, sound}
 use Rattle.record.proofs.KindLaws.{wanted-no-loop}
-use Rattle.record.proofs.ReadThenWrite.{Sound, sound-says, arguments-read}
+use Rattle.record.proofs.SoundRecords.{Sound, sound-says, arguments-read}
 use Rattle.refusal.specs.Tests.{done, number, first}
 use Rattle.refusal.proofs.TestLaws.{number-avoided}
 use Rattle.verdict.proofs.StageLaws.{silent-said}

@@ -23,7 +23,9 @@ use Rattle.record.specs.Writers as W
 use Rattle.record.specs.declared.Writing.{Writing}
 use Rattle.record.specs.Writers.{Writer}
 use Rattle.record.proofs.WriteAccepts.{Accepts, write-accepts-loop, write-accepts-ranking, write-accepts-exclusion, write-accepts-lasso}
-use Rattle.record.proofs.WriteThenRead.{Writable, over, counts-same, kind-same, list-same, passes-sound, has-written}
+use Rattle.record.proofs.WritableRecords.{Writable}
+use Rattle.record.proofs.WrittenBytes.{over, counts-same, kind-same, list-same, passes-sound}
+use Rattle.record.proofs.WriteThenRead.{has-written}
 use Rattle.refusal.proofs.TestLaws.{passes-done}
 use Rattle.theory.specs.Exclusions.{ExclusionHolds}
 use Rattle.theory.specs.Lassos.{Lasso, LassoHolds}

@@ -19,8 +19,9 @@ use Rattle.record.specs.Ranges.{_to_, multipliers, scales, rows, variables}
 use Rattle.record.specs.Readers as R
 use Rattle.record.specs.Readers.{Reader}
 use Rattle.record.proofs.FieldLaws.{length-values}
-use Rattle.record.proofs.Fits.{Fit, fit-head, fit-run, within-in}
-use Rattle.record.proofs.ReadThenWrite.{Sound, counts-in-range, counts-back}
+use Rattle.record.proofs.FittingValues.{Fit, fit-head, fit-run, within-in}
+use Rattle.record.proofs.SoundRecords.{Sound, counts-in-range}
+use Rattle.record.proofs.ReadThenWrite.{counts-back}
 use Rattle.refusal.proofs.TestLaws.{both-true}
 use Rattle.verdict.specs.Contents.{rows-from, ranking-from, exclusion-from, lasso-from, loop-in, ranking-in, exclusion-in, lasso-in, parts}
 

@@ -15,7 +15,7 @@ use Rattle.record.specs.Contents.{In, List-in, Row-in}
 use Rattle.record.specs.Layouts.{loop, ranking, exclusion, lasso, is-known}
 use Rattle.record.specs.Ranges.{_to_, variables, rows, multipliers, scales}
 use Rattle.record.specs.Readers.{Reader, kind, counts-read}
-use Rattle.record.proofs.ReadThenWrite.{Sound}
+use Rattle.record.proofs.SoundRecords.{Sound}
 use Rattle.theory.specs.Lassos.{added, longer}
 use Rattle.verdict.specs.Contents.{loop-in, ranking-in, exclusion-in, lasso-in, parts}
 use Rattle.verdict.proofs.Parts.{counts-in, loop-parts, ranking-parts, exclusion-parts, lasso-parts}

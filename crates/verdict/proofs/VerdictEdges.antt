@@ -10,7 +10,7 @@ use lib.IntN.{ℤ, pos}
 use lib.ListN.{replicate, take}
 use Rattle.record.specs.Contents.{rows-values, row-values, ranking-values, exclusion-values, lasso-values}
 use Rattle.record.specs.Samples as Records
-use Rattle.record.proofs.Edges.{two, four, filed, one-row, zeros, weights, excluding, caught}
+use Rattle.record.proofs.EdgeInputs.{two, four, filed, one-row, zeros, weights, excluding, caught}
 use Rattle.verdict.specs.Bounding.{bounding, bound-of}
 use Rattle.verdict.specs.Computing.{computing}
 use Rattle.verdict.specs.Judging.{judging, judge-of}
