@@ -9,6 +9,7 @@ ghost use lib.ListN.{length, replicate};
 ghost use Rattle.record.specs.Layouts.{entry, right-side, multiplier, scale, direction, rowsOf};
 ghost use Rattle.record.specs.Ranges.{_to_, variables, rows, within};
 ghost use Rattle.record_fields.specs.Runs.{fits, all-fit, fault, linear, weights};
+ghost use Rattle.record_faults.specs.RunsOf.{field-of, wide-of};
 
 // ---- one field
 
@@ -111,23 +112,61 @@ fn multipliers_fit(bytes: &[u8], place: usize, count: usize) -> bool
 
 // ---- runs: where the first number out of range stands, or the end
 
+// The fields that stand in runs.
+enum RunOf {
+    Entries,
+    Directions,
+    Multipliers,
+}
+
+fn field_width(run: RunOf) -> usize
+    ensures { λ r. ⌜ r ≡ wide-of run ⌝ }
+{
+    match run {
+        RunOf::Entries => 2,
+        RunOf::Directions => 4,
+        RunOf::Multipliers => 2,
+    }
+}
+
+fn field_fits(bytes: &[u8], place: usize, run: RunOf) -> bool
+    requires { ⌜ place + wide-of run ≤ length (now bytes) ⌝ }
+    ensures { λ r. ⌜ r ≡ fits (field-of run) (now (bytes .entry)) place ⌝ }
+{
+    match run {
+        RunOf::Entries => entry_fits(bytes, place),
+        RunOf::Directions => direction_fits(bytes, place),
+        RunOf::Multipliers => multiplier_fits(bytes, place),
+    }
+}
+
+// One field after another: of a run that has a fault, so this is seldom called.
+fn first_out(bytes: &[u8], place: usize, count: usize, run: RunOf) -> usize
+    requires { ⌜ place + count * wide-of run ≤ length (now bytes) ⌝ }
+    ensures { λ r. ⌜ r ≡ fault (replicate count (field-of run)) (now (bytes .entry)) place ⌝ }
+{
+    let wide = field_width(run);
+    let mut at = place;
+    let mut left = count;
+    while 0 < left {
+        if !field_fits(bytes, at, run) {
+            return at;
+        }
+        at += wide;
+        left -= 1;
+    }
+    at
+}
+
 fn entries_fault(bytes: &[u8], place: usize, count: usize) -> usize
     requires { ⌜ place + count * 2 ≤ length (now bytes) ⌝ }
     ensures { λ r. ⌜ r ≡ fault (replicate count entry) (now (bytes .entry)) place ⌝ }
 {
     if entries_fit(bytes, place, count) {
-        return place + 2 * count;
+        place + 2 * count
+    } else {
+        first_out(bytes, place, count, RunOf::Entries)
     }
-    let mut at = place;
-    let mut left = count;
-    while 0 < left {
-        if !entry_fits(bytes, at) {
-            return at;
-        }
-        at += 2;
-        left -= 1;
-    }
-    at
 }
 
 fn directions_fault(bytes: &[u8], place: usize, count: usize) -> usize
@@ -135,18 +174,10 @@ fn directions_fault(bytes: &[u8], place: usize, count: usize) -> usize
     ensures { λ r. ⌜ r ≡ fault (replicate count direction) (now (bytes .entry)) place ⌝ }
 {
     if directions_fit(bytes, place, count) {
-        return place + 4 * count;
+        place + 4 * count
+    } else {
+        first_out(bytes, place, count, RunOf::Directions)
     }
-    let mut at = place;
-    let mut left = count;
-    while 0 < left {
-        if !direction_fits(bytes, at) {
-            return at;
-        }
-        at += 4;
-        left -= 1;
-    }
-    at
 }
 
 pub fn multipliers_fault(bytes: &[u8], place: usize, count: usize) -> usize
@@ -154,18 +185,10 @@ pub fn multipliers_fault(bytes: &[u8], place: usize, count: usize) -> usize
     ensures { λ r. ⌜ r ≡ fault (replicate count multiplier) (now (bytes .entry)) place ⌝ }
 {
     if multipliers_fit(bytes, place, count) {
-        return place + 2 * count;
+        place + 2 * count
+    } else {
+        first_out(bytes, place, count, RunOf::Multipliers)
     }
-    let mut at = place;
-    let mut left = count;
-    while 0 < left {
-        if !multiplier_fits(bytes, at) {
-            return at;
-        }
-        at += 2;
-        left -= 1;
-    }
-    at
 }
 
 fn right_side_fault(bytes: &[u8], place: usize) -> usize

@@ -1,88 +1,37 @@
--- `record_faults::directions_fault` meets its contract: if not all fit, a walk along the run. Assumes nothing.
+-- `record_faults::directions_fault` meets its contract: all fit, or the first that does not is looked for. Assumes nothing.
 use mathlib.Core.Path.{refl, sym, _∙_}
-use native.Mathlib.Omega.{arith}
-use borrow.Author.Tests.{not-true, not-false}
 use Rattle.record.specs.Fields.{width}
 use Rattle.record.specs.Layouts.{direction}
-use Rattle.record_fields.proofs.Walks.{Run, walk-start, run-more, run-here, run-end, all-in-range}
+use Rattle.record_fields.proofs.Walks.{all-in-range}
+use Rattle.record_faults.specs.RunsOf.{field-of, wide-of}
 use borrow.Author.Needs.{needs}
 use Rattle.record_faults.proofs.directions_fault.Statement.{statement}
 use Rattle.record_faults.proofs.directions_fault.Tie as tie
 
-abbrev Inv-loop : tie.InvT-loop
-Inv-loop bytes place count at₀ left₀ at left = Run direction 4 bytes place count at left
-
-abbrev μ-loop : tie.MeasureT-loop
-μ-loop bytes place count at₀ left₀ at left = left
-
-directions-fit-requires : tie.Need-directions-fit-requires Inv-loop μ-loop
+directions-fit-requires : tie.Need-directions-fit-requires
 directions-fit-requires c κs = search needs
 
-mul-result : tie.Need-mul-result Inv-loop μ-loop
+mul-result : tie.Need-mul-result
 mul-result c = search needs
 
-add-result : tie.Need-add-result Inv-loop μ-loop
+add-result : tie.Need-add-result
 add-result c = search needs
 
-returns : tie.Need-returns Inv-loop μ-loop
+first-out-requires : tie.Need-first-out-requires
+unfolding wide-of
+first-out-requires c κs = c .before .before .before .pre
+
+returns : tie.Need-returns
 unfolding width direction
 returns c =
     let a = c .before .before .before .args in
     all-in-range direction 4 (a .bytes .now) (a .place) (a .count) refl (sym (c .before .directions-fit .ensures) ∙ c .if1 .taken)
 
-loop-holds : tie.Need-loop-holds Inv-loop μ-loop
-loop-holds c = walk-start _ _ _ _ _
-
-direction-fits-requires : tie.Need-direction-fits-requires Inv-loop μ-loop
-direction-fits-requires c κs = omega (arith, c .before .loop .inv .reach)
-
-returns-2 : tie.Need-returns-2 Inv-loop μ-loop
-unfolding width direction
-returns-2 c =
-    let w = c .before .before .before .loop in
-    let a = c .before .before .before .before .before .before .before .args in
-    let out = sym (c .before .direction-fits .ensures) ∙ not-true _ (c .if2 .taken) in
-    run-here direction 4 (a .bytes .now) (a .place) (a .count) refl (w .at) (w .left) (w .inv) (c .before .before .loop-test .taken) out (omega arith)
-
-add-at : tie.Need-add-at Inv-loop μ-loop
-add-at c = omega (arith, c .before .before .before .loop .inv .reach)
-
-sub-left : tie.Need-sub-left Inv-loop μ-loop
-sub-left c = search needs
-
-loop-less : tie.Need-loop-less Inv-loop μ-loop
-loop-less c = search needs
-
-loop-again : tie.Need-loop-again Inv-loop μ-loop
-unfolding width direction
-loop-again c =
-    let w = c .before .before .before .loop in
-    let a = c .before .before .before .before .before .before .before .args in
-    let fit = sym (c .before .direction-fits .ensures) ∙ not-false _ (c .if2 .left) in
-    run-more direction 4 (a .bytes .now) (a .place) (a .count) refl (w .at) (w .left) (w .inv) (c .before .before .loop-test .taken) fit
-
-returns-3 : tie.Need-returns-3 Inv-loop μ-loop
-unfolding width direction
-returns-3 c =
-    let w = c .before .loop in
-    let a = c .before .before .before .before .before .args in
-    run-end direction 4 (a .bytes .now) (a .place) (a .count) refl (w .at) (w .left) (w .inv) (omega arith)
+returns-2 : tie.Need-returns-2
+unfolding field-of
+returns-2 c = c .first-out .ensures
 
 pub directions-fault-spec : {M : Type 1} → statement M
 directions-fault-spec =
     tie.close
-    (tie.spec
-    Inv-loop
-    μ-loop
-    directions-fit-requires
-    mul-result
-    add-result
-    returns
-    loop-holds
-    direction-fits-requires
-    returns-2
-    add-at
-    sub-left
-    loop-less
-    loop-again
-    returns-3)
+    (tie.spec directions-fit-requires mul-result add-result first-out-requires returns returns-2)
