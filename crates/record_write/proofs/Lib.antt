@@ -1,4 +1,4 @@
-pub mod BodyBytes
 pub mod WritingWays
 pub mod OneAnswer
 pub mod RoundTrips
+pub mod RoomTails

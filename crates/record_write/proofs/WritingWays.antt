@@ -18,8 +18,9 @@ use Rattle.record_fields.proofs.Copies.{sets-front}
 use Rattle.record_given.specs.declared.Given.{Given}
 use Rattle.record_given.specs.Settled.{settling, settled}
 use Rattle.record_given.proofs.SettledAnswers.{settled-done, settled-refused, says}
-use Rattle.record_write.specs.Bodies.{body-bytes, Ready, refusal}
-use Rattle.record_write.proofs.BodyBytes.{body-long}
+use Rattle.record_fill.specs.Bodies.{body-bytes}
+use Rattle.record_write.specs.WrittenOut.{Ready, refusal}
+use Rattle.record_fill.proofs.BodyBytes.{body-long}
 
 module _ (w : Writer) (room : List ℕ) (room-is : w .room ≡ length room) (v : Given) (is : v ≡ settled w) where
   refuses : {k p : ℕ} → first writing w ≡ refused k p → (refusal k p ≡ writes w) × (room ≡ room-after w room)

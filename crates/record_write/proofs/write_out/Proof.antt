@@ -8,8 +8,9 @@ use Rattle.endian.proofs.Laws.{length-digits}
 use Rattle.record.specs.Layouts.{Counts}
 use Rattle.record_fields.proofs.Copies.{sets-both}
 use Rattle.record_fields.proofs.Stores.{put-is}
-use Rattle.record_write.specs.Bodies.{body-bytes}
-use Rattle.record_write.proofs.BodyBytes.{tail-sets, body-long}
+use Rattle.record_fill.specs.Bodies.{body-bytes}
+use Rattle.record_fill.proofs.BodyBytes.{body-long}
+use Rattle.record_write.proofs.RoomTails.{tail-sets}
 use borrow.Author.Needs.{needs}
 use Rattle.record_write.proofs.write_out.Statement.{statement}
 use Rattle.record_write.proofs.write_out.Tie as tie

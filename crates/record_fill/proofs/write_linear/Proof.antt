@@ -1,4 +1,4 @@
--- `record_write::write_linear` meets its contract. Assumes nothing.
+-- `record_fill::write_linear` meets its contract. Assumes nothing.
 use mathlib.Core.Path.{_≡_, refl, ap, _∙_}
 use Prim.Native.Nat.{_+_, _*_}
 use mathlib.Core.Bool.{true}
@@ -12,8 +12,8 @@ use Rattle.record.proofs.Lengths.{widths-replicate}
 use Rattle.record_fields.specs.Runs.{linear}
 use Rattle.record_fields.proofs.Stores.{bytes-run, held-run, in-range-both, write-both}
 use borrow.Author.Needs.{needs}
-use Rattle.record_write.proofs.write_linear.Statement.{statement}
-use Rattle.record_write.proofs.write_linear.Tie as tie
+use Rattle.record_fill.proofs.write_linear.Statement.{statement}
+use Rattle.record_fill.proofs.write_linear.Tie as tie
 
 fit : (s : tie.Start)
     → (in-range (replicate (s .args .count) entry) (drop (s .args .index) (s .args .values .now)) ≡ true)

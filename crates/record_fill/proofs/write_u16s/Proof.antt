@@ -1,4 +1,4 @@
--- `record_write::write_u16s` meets its contract. Assumes nothing.
+-- `record_fill::write_u16s` meets its contract. Assumes nothing.
 use mathlib.Core.Path.{refl, _∙_}
 use Prim.Native.Nat.{_+_, _≤_, _<_}
 use native.Mathlib.Omega.{arith}
@@ -12,8 +12,8 @@ use borrow.Author.Needs.{needs, sfits-of}
 use Rattle.record.specs.Fields.{u16, width, stored}
 use Rattle.record.proofs.FieldLaws.{length-stored}
 use Rattle.record_fields.proofs.Stores.{held-u16, put-is, Storing, storing-start, storing-held, storing-more, storing-end}
-use Rattle.record_write.proofs.write_u16s.Statement.{statement}
-use Rattle.record_write.proofs.write_u16s.Tie as tie
+use Rattle.record_fill.proofs.write_u16s.Statement.{statement}
+use Rattle.record_fill.proofs.write_u16s.Tie as tie
 
 abbrev Inv-loop : tie.InvT-loop
 Inv-loop body₀ place count values index i₀ at₀ left₀ body i at left = Storing u16 2 values index count body₀ place body i at left

@@ -1,4 +1,4 @@
--- `record_write::write_exclusion` meets its contract. Assumes nothing.
+-- `record_fill::write_exclusion` meets its contract. Assumes nothing.
 use mathlib.Core.Path.{_≡_, refl, ap, _∙_}
 use Prim.Native.Nat.{_*_}
 use mathlib.Core.Bool.{true}
@@ -10,8 +10,8 @@ use Rattle.record.specs.Fields.{u16, i32, width, widths, in-range}
 use Rattle.record.specs.Layouts.{scale, direction}
 use Rattle.record_fields.proofs.Stores.{bytes-run, held-run, in-range-both, write-both}
 use borrow.Author.Needs.{needs}
-use Rattle.record_write.proofs.write_exclusion.Statement.{statement}
-use Rattle.record_write.proofs.write_exclusion.Tie as tie
+use Rattle.record_fill.proofs.write_exclusion.Statement.{statement}
+use Rattle.record_fill.proofs.write_exclusion.Tie as tie
 
 fit : (s : tie.Start)
     → (in-range (scale ∷ []) (s .args .values .now) ≡ true) × (in-range (replicate (3 * s .args .n) direction) (drop 1 (s .args .values .now)) ≡ true)

@@ -1,4 +1,4 @@
--- `record_write::write_loop` meets its contract. Assumes nothing.
+-- `record_fill::write_loop` meets its contract. Assumes nothing.
 use mathlib.Core.Path.{sym, ap, _∙_}
 use Prim.Native.Nat.{_+_}
 use mathlib.Core.List.{_++_}
@@ -10,8 +10,8 @@ use Rattle.record.specs.Layouts.{rowsOf}
 use Rattle.record_fields.proofs.Copies.{sets-both}
 use Rattle.record_fields.proofs.Stores.{put-is}
 use borrow.Author.Needs.{needs}
-use Rattle.record_write.proofs.write_loop.Statement.{statement}
-use Rattle.record_write.proofs.write_loop.Tie as tie
+use Rattle.record_fill.proofs.write_loop.Statement.{statement}
+use Rattle.record_fill.proofs.write_loop.Tie as tie
 
 put-u16-requires : tie.Need-put-u16-requires
 put-u16-requires c κs = search needs

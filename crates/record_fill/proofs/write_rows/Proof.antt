@@ -1,4 +1,4 @@
--- `record_write::write_rows` meets its contract. Assumes nothing.
+-- `record_fill::write_rows` meets its contract. Assumes nothing.
 use mathlib.Core.Path.{sym, ap, _∙_}
 use Prim.Native.Nat.{_+_, _*_, _≤_, _<_}
 use native.Mathlib.Nat.{mul-le-mul-right}
@@ -9,8 +9,8 @@ use borrow.Author.Needs.{needs}
 use Rattle.record.specs.Fields.{bytesOf}
 use Rattle.record_fields.proofs.BodyParts.{row-is}
 use Rattle.record_fields.proofs.Stores.{StoringRows, rows-start, row-fits, rows-more, rows-end}
-use Rattle.record_write.proofs.write_rows.Statement.{statement}
-use Rattle.record_write.proofs.write_rows.Tie as tie
+use Rattle.record_fill.proofs.write_rows.Statement.{statement}
+use Rattle.record_fill.proofs.write_rows.Tie as tie
 
 abbrev Inv-loop : tie.InvT-loop
 Inv-loop body₀ place n count values index i₀ at₀ left₀ body i at left = StoringRows n values index count body₀ place body i at left

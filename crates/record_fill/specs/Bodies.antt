@@ -1,13 +1,12 @@
 -- The bytes of a body, from a kind number, counts and a list of values; and when they can be written.
-use Prim.Native.Nat.{ℕ, _+_, _≤_, _<_}
+use Prim.Native.Nat.{ℕ, _≤_}
 use mathlib.Core.Path.{_≡_}
 use mathlib.Core.Bool.{true, cond}
 use mathlib.Core.List.{List, [], _∷_, _++_}
 use lib.IntN.{ℤ, pos}
 use lib.ListN.{length}
-use Rattle.record.specs.declared.Writing.{Writing}
 use Rattle.record.specs.Fields.{bytesOf, in-range}
-use Rattle.record.specs.Layouts.{kindOf, is-loop, is-known, Counts, lengthOf, ahead, listed}
+use Rattle.record.specs.Layouts.{kindOf, is-loop, Counts, ahead, listed}
 use Rattle.record_fields.specs.Runs.{value-count}
 
 unfoldable pub body-bytes : ℕ → Counts → List ℤ → List ℕ
@@ -21,16 +20,3 @@ pub record Fitting (kind : ℕ) (c : Counts) (zs : List ℤ) : Type 0 where
   pub rows : c .m ≤ 64
   pub counted : length zs ≡ value-count (kindOf kind) c
   pub fit : in-range (listed (kindOf kind) c) zs ≡ true
-
--- a record that can be written out: its values fit, and there is room for it
-pub record Ready (kind : ℕ) (c : Counts) (long : ℕ) (zs : List ℤ) (room : List ℕ) : Type 0 where
-  pub fitting : Fitting kind c zs
-  pub known : is-known (kindOf kind) ≡ true
-  pub kind-fits : kind < 65536
-  pub long-is : long ≡ lengthOf (kindOf kind) c
-  pub long-fits : (2 ≤ long) × (long < 65536)
-  pub room-for : 4 + long ≤ length room
-
--- a refusal: all but number and place are 0
-abbrev pub refusal : ℕ → ℕ → Writing
-refusal number place = record { number = number; place = place; written = 0 }

@@ -1,4 +1,4 @@
--- `record_write::write_lasso` meets its contract. Assumes nothing.
+-- `record_fill::write_lasso` meets its contract. Assumes nothing.
 use mathlib.Core.Path.{_≡_, refl, sym, ap, _∙_}
 use Prim.Native.Nat.{_+_, _*_}
 use mathlib.Core.Bool.{true}
@@ -14,8 +14,8 @@ use Rattle.record_fields.proofs.Forms.{weights-formed, weights-count}
 use Rattle.record_fields.proofs.BodyParts.{widths-linear, length-linear, length-rows}
 use Rattle.record_fields.proofs.Stores.{bytes-formed, held-formed, bytes-run, held-run, in-range-both, write-both}
 use borrow.Author.Needs.{needs}
-use Rattle.record_write.proofs.write_lasso.Statement.{statement}
-use Rattle.record_write.proofs.write_lasso.Tie as tie
+use Rattle.record_fill.proofs.write_lasso.Statement.{statement}
+use Rattle.record_fill.proofs.write_lasso.Tie as tie
 
 -- the values of each part are in range
 module _ (s : tie.Start) where

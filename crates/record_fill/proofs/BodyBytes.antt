@@ -1,22 +1,19 @@
--- The bytes of a body of each kind, as the code writes them; and a part of a room that was lent from a place on.
+-- The bytes of a body of each kind, as the code writes them.
 use mathlib.Core.Path.{_≡_, refl, sym, ap, _∙_}
-use Prim.Native.Nat.{ℕ, _+_, _*_, _-_, _≤_}
+use Prim.Native.Nat.{ℕ, _+_, _*_, _≤_}
 use mathlib.Core.Bool.{true, cond}
-use mathlib.Core.List.{List, [], _∷_, _++_, append-assoc, append-nil}
+use mathlib.Core.List.{List, [], _∷_, _++_}
 use native.Mathlib.Omega.{arith}
 use lib.IntN.{ℤ, pos}
-use lib.ListN.{length, take, drop, replicate, length-append, length-drop, drop-of-length-le}
-use lib.Seq.{sets, sets-eq, take-all, drop-drop}
-use borrow.Rule.Slice.PartMut.{putMid}
+use lib.ListN.{length, replicate, length-append}
 use Rattle.endian.specs.Numbers.{digits}
 use Rattle.record.specs.Fields.{u16, stored, widths, bytesOf, in-range}
 use Rattle.record.specs.Layouts.{Kind, loop, ranking, exclusion, lasso, other, kindOf, is-loop, is-known, Counts, variable-count, row-count, multiplier, scale, direction, rowsOf, counts, layout, lengthOf, ahead, listed}
 use Rattle.record.proofs.Lengths.{length-law}
 use Rattle.record_fields.specs.Runs.{linear, weights, stores, all-held}
-use Rattle.record_fields.proofs.Copies.{sets-front}
 use Rattle.record_fields.proofs.BodyParts.{count-law, ranking-is, exclusion-is, lasso-is}
 use Rattle.record_fields.proofs.Stores.{bytes-run, held-run, length-bytes}
-use Rattle.record_write.specs.Bodies.{body-bytes, Fitting}
+use Rattle.record_fill.specs.Bodies.{body-bytes, Fitting}
 
 module _ (kind : ℕ) (c : Counts) (zs : List ℤ) where
   pub bytes-1 : kind ≡ 1 → digits 2 (c .n) ++ (digits 2 (c .m) ++ bytesOf (rowsOf (c .n) (c .m)) zs) ≡ body-bytes kind c zs
@@ -78,13 +75,3 @@ body-widths kind c zs f =
 pub body-long : (kind : ℕ) (c : Counts) (zs : List ℤ) → Fitting kind c zs → is-known (kindOf kind) ≡ true
     → 2 + length (body-bytes kind c zs) ≡ lengthOf (kindOf kind) c
 body-long kind c zs f known = omega (arith, body-widths kind c zs f, length-law (kindOf kind) c known)
-
--- the part from a place on, written from its front, is the room written from that place
-pub tail-sets : (room : List ℕ) (place : ℕ) (bytes : List ℕ) {part : List ℕ} → place + length bytes ≤ length room
-    → part ≡ sets (take (length room - place) (drop place room)) 0 bytes → putMid place (length room - place) room part ≡ sets room place bytes
-tail-sets room place bytes fits written =
-    let tail = drop place room in
-    let long : length tail ≤ length room - place = rw length-drop (omega arith) in
-    let enough : length bytes ≤ length tail = rw length-drop (omega arith) in
-    rw (written, take-all (length room - place) tail long, sets-front tail bytes enough, drop-of-length-le tail long, append-nil, drop-drop, ← append-assoc)
-    (sym (sets-eq bytes room place fits))

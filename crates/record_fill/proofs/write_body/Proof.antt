@@ -1,4 +1,4 @@
--- `record_write::write_body` meets its contract: the kind number decides. Assumes nothing.
+-- `record_fill::write_body` meets its contract: the kind number decides. Assumes nothing.
 use mathlib.Core.Path.{ap, _∙_}
 use Prim.Native.Nat.{_+_, _*_, _≤_}
 use native.Mathlib.Omega.{arith}
@@ -7,10 +7,10 @@ use lib.Seq.{sets}
 use Rattle.record.specs.Layouts.{kindOf, lengthOf}
 use Rattle.record_fields.specs.Runs.{value-count}
 use Rattle.record.proofs.KindLaws.{other-kind}
-use Rattle.record_write.proofs.BodyBytes.{bytes-1, bytes-2, bytes-3, bytes-4, bytes-other, fit-1, fit-2, fit-3, fit-4}
+use Rattle.record_fill.proofs.BodyBytes.{bytes-1, bytes-2, bytes-3, bytes-4, bytes-other, fit-1, fit-2, fit-3, fit-4}
 use borrow.Author.Needs.{needs}
-use Rattle.record_write.proofs.write_body.Statement.{statement}
-use Rattle.record_write.proofs.write_body.Tie as tie
+use Rattle.record_fill.proofs.write_body.Statement.{statement}
+use Rattle.record_fill.proofs.write_body.Tie as tie
 
 sized-1 : (c : tie.At-match-keys1) → (let a = c .before .before .args in (a .m * (2 * a .n + 1) ≤ length (a .values .now)) × (4 + a .m * (4 * a .n + 4) ≤ length (a .body .now)))
 unfolding kindOf lengthOf value-count
