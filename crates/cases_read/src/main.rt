@@ -8,7 +8,10 @@ fn loop_read(name: &[u8], bytes: &[u8]) {
 
 fn certificate_read(name: &[u8], bytes: &[u8], n: usize, m: usize) {
     let mut values = [0i64; 24];
-    cases_telling::read(name, record_read::read_certificate(bytes, n, m, &mut values));
+    cases_telling::read(
+        name,
+        record_read::read_certificate(bytes, n, m, &mut values),
+    );
 }
 
 fn loops_1() {

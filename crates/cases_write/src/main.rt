@@ -3,7 +3,10 @@
 
 fn record_written(name: &[u8], kind: usize, n: usize, m: usize, values: &[i64]) {
     let mut room = [0u8; 64];
-    cases_telling::written(name, record_write::write_record(kind, n, m, values, &mut room));
+    cases_telling::written(
+        name,
+        record_write::write_record(kind, n, m, values, &mut room),
+    );
 }
 
 fn records_1() {
@@ -107,7 +110,10 @@ fn most_rows() {
         record_write::write_record(1, 1, 64, &[0i64; 192], &mut room),
     );
     let mut values = [1i64; 192];
-    cases_telling::read(b"m 64, read back:", record_read::read_loop(&room, &mut values));
+    cases_telling::read(
+        b"m 64, read back:",
+        record_read::read_loop(&room, &mut values),
+    );
 }
 
 fn main() {

@@ -9,9 +9,14 @@ use Rattle.endian.specs.Numbers.{littleAt}
 use Rattle.record.specs.Layouts.{Kind, ranking, exclusion, lasso, is-loop, is-certificate, has-rank}
 use Rattle.record.specs.Readers.{Reader, counts-read}
 use Rattle.theory.specs.Exclusions.{ExclusionHolds}
-use Rattle.judge_conditions.specs.Decided.{Decides, RankedBy, LassoBy}
-use Rattle.judge_conditions.specs.Held.{loop-held, ranking-held, exclusion-held, lasso-held}
-use Rattle.judge_conditions.specs.declared.Ranked.{Ranked}
+use Rattle.judge_conditions.specs.Whether.{Whether}
+use Rattle.judge_ranking.specs.RankedBy.{RankedBy}
+use Rattle.judge_lasso.specs.LassoBy.{LassoBy}
+use Rattle.judge_conditions.specs.LoopHeld.{loop-held}
+use Rattle.judge_ranking.specs.RankingHeld.{ranking-held}
+use Rattle.judge_exclusion.specs.ExclusionHeld.{exclusion-held}
+use Rattle.judge_lasso.specs.LassoHeld.{lasso-held}
+use Rattle.judge_ranking.specs.declared.Ranked.{Ranked}
 use Rattle.verdict.specs.Contents.{loop-in, ranking-in, exclusion-in, lasso-in}
 use Rattle.verdict.specs.Judging.{Judging, judges, rank-after, judge-of}
 use Rattle.verdict.specs.Outcomes.{grade-of}
@@ -113,7 +118,7 @@ module _ (rows : List ℕ) (n m : ℕ) (l : LoopSound rows n m) (certificate : L
   -- ---- kind 3
 
   module _ (c : CertificateSound is-certificate rows certificate exclusion) (holds : Bool)
-      (by : Decides holds (ExclusionHolds (loop-held rows n m) (exclusion-held certificate n))) where
+      (by : Whether holds (ExclusionHolds (loop-held rows n m) (exclusion-held certificate n))) where
     exclusion-told : exclusion-in (j .records .certificate-is) ≡ exclusion-held certificate n
     unfolding judge-of certificate-record is-loop
     exclusion-told =

@@ -19,7 +19,10 @@ use Rattle.record.specs.Layouts.{loop, ranking, exclusion, lasso, is-loop, vari
 use Rattle.judge_sums.specs.Lists.{multipliersFrom, entriesFrom, rightsFrom, rowFrom, rowsFrom}
 use Rattle.judge_sums.specs.Places.{entryAt, rightAt, multiplierAt, rowAt}
 use Rattle.theory.specs.Loops.{A, over}
-use Rattle.judge_conditions.specs.Held.{loop-held, ranking-held, exclusion-held, lasso-held, s-place, s0-place, T-place, k2-place, H-place, h0-place, Y-place}
+use Rattle.judge_conditions.specs.LoopHeld.{loop-held}
+use Rattle.judge_ranking.specs.RankingHeld.{ranking-held}
+use Rattle.judge_exclusion.specs.ExclusionHeld.{exclusion-held}
+use Rattle.judge_lasso.specs.LassoHeld.{lasso-held, s-place, s0-place, T-place, k2-place, H-place, h0-place, Y-place}
 use Rattle.verdict.specs.Contents.{rows-from, ranking-from, exclusion-from, lasso-from, loop-in, ranking-in, exclusion-in, lasso-in}
 
 -- the number of a field at a place

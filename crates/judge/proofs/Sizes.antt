@@ -10,7 +10,7 @@ use Rattle.record.specs.Readers.{Reader, kind, counts-read, stated-length}
 use Rattle.record.proofs.ReadThenWrite.{Sound, sound-says, loop-only, arguments-read}
 use Rattle.record_check.proofs.Answers.{counts-small}
 use Rattle.judge_sums.specs.Places.{RowsIn, MultipliersIn}
-use Rattle.judge_conditions.specs.Held.{LassoIn}
+use Rattle.judge_lasso.specs.LassoHeld.{LassoIn}
 use Rattle.verdict.specs.Pairs.{loop-record, certificate-record}
 use Rattle.judge.specs.Told.{LoopSound, CertificateSound}
 

@@ -20,9 +20,12 @@ use Rattle.whole.proofs.Tables.{length-tabulate}
 use Rattle.theory.specs.Loops.{A′, b, Loop}
 use Rattle.theory.specs.Lassos as Lassos
 use Rattle.theory.specs.Rankings as Rankings
-use Rattle.judge_conditions.specs.Decided.{RankedBy, LassoBy}
-use Rattle.judge_conditions.specs.Held.{loop-held, ranking-held, lasso-held}
-use Rattle.judge_conditions.specs.declared.Ranked.{Ranked}
+use Rattle.judge_ranking.specs.RankedBy.{RankedBy}
+use Rattle.judge_lasso.specs.LassoBy.{LassoBy}
+use Rattle.judge_conditions.specs.LoopHeld.{loop-held}
+use Rattle.judge_ranking.specs.RankingHeld.{ranking-held}
+use Rattle.judge_lasso.specs.LassoHeld.{lasso-held}
+use Rattle.judge_ranking.specs.declared.Ranked.{Ranked}
 use Rattle.verdict.specs.Bounding.{Bounding, invariant, bounds, bound-of}
 use Rattle.verdict.specs.Contents.{loop-in, ranking-in, lasso-in}
 use Rattle.verdict.specs.Pairs.{loop-record, certificate-record, kind-of, variables-of}

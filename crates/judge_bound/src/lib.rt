@@ -8,8 +8,8 @@ ghost use lib.ListN.{length, take};
 ghost use Rattle.whole.specs.Sums.{Within};
 ghost use Rattle.theory.specs.Rankings as Rankings;
 ghost use Rattle.theory.specs.Lassos.{Invariant};
-ghost use Rattle.judge_conditions.specs.Decided.{Decides};
-ghost use Rattle.judge_conditions.specs.Held.{LassoIn, lasso-held};
+ghost use Rattle.judge_conditions.specs.Whether.{Whether};
+ghost use Rattle.judge_lasso.specs.LassoHeld.{LassoIn, lasso-held};
 ghost use Rattle.record.specs.Layouts.{ranking, lasso, has-rank};
 ghost use Rattle.record.specs.Readers.{counts-read};
 ghost use Rattle.verdict.specs.Bounding.{before-outside, bounds, bound-of};
@@ -74,7 +74,7 @@ fn bound_ranking(rows: &[u8], n: usize, m: usize, certificate: &[u8], state: &[i
     ensures { λ r. ⌜ r ≡ bounds (bound-of (now (rows .entry)) (now (certificate .entry)) (now (state .entry))) ⌝ }
 {
     let mut entries = [0i64; 16];
-    let shown = judge_conditions::ranking(rows, n, m, certificate, &mut entries);
+    let shown = judge_ranking::ranking(rows, n, m, certificate, &mut entries);
     if !shown.holds {
         return refused(2, 8, 0);
     }
@@ -95,7 +95,7 @@ fn bound_ranking(rows: &[u8], n: usize, m: usize, certificate: &[u8], state: &[i
 // A lasso's invariant at a state.
 fn meets_invariant(certificate: &[u8], n: usize, m: usize, ms: usize, state: &[i64]) -> bool
     requires { ⌜ LassoIn (now certificate) n m ms × (length (now state) ≡ n) × Within 1048576 (now state) ⌝ }
-    ensures { λ r. ⌜ Decides r (Invariant (lasso-held (now (certificate .entry)) n m ms) (now (state .entry))) ⌝ }
+    ensures { λ r. ⌜ Whether r (Invariant (lasso-held (now (certificate .entry)) n m ms) (now (state .entry))) ⌝ }
 {
     let s = 8 + ms * (4 * n + 4);
     let reached = judge_sums::entries_at(certificate, s, state);
@@ -117,7 +117,7 @@ fn bound_lasso(
     ensures { λ r. ⌜ r ≡ bounds (bound-of (now (rows .entry)) (now (certificate .entry)) (now (state .entry))) ⌝ }
 {
     let mut entries = [0i64; 16];
-    let shown = judge_conditions::lasso(rows, n, m, certificate, ms, &mut entries);
+    let shown = judge_lasso::lasso(rows, n, m, certificate, ms, &mut entries);
     if !shown.holds {
         return refused(2, 8, 0);
     }

@@ -103,7 +103,14 @@ fn ranking_record(bytes: &[u8], n: usize, m: usize) -> Checked
     if end != 6 + 4 * m {
         return refused(3, 0);
     }
-    ends(record_faults::multipliers_fault(bytes, 6, 2 * m), end, 2, n, m, 0)
+    ends(
+        record_faults::multipliers_fault(bytes, 6, 2 * m),
+        end,
+        2,
+        n,
+        m,
+        0,
+    )
 }
 
 fn exclusion_record(bytes: &[u8], n: usize, m: usize) -> Checked
@@ -138,7 +145,14 @@ fn lasso_record(bytes: &[u8], n: usize, m: usize) -> Checked
     if end != 22 + 2 * n + ms * (4 * n + 6) + 6 * m {
         return refused(3, 0);
     }
-    ends(record_faults::lasso_fault(bytes, 8, n, m, ms), end, 4, n, m, ms)
+    ends(
+        record_faults::lasso_fault(bytes, 8, n, m, ms),
+        end,
+        4,
+        n,
+        m,
+        ms,
+    )
 }
 
 // ---- the two checks

@@ -10,8 +10,8 @@ ghost use Rattle.record.specs.Layouts.{kindOf, row-count, scale, direction, row
 ghost use Rattle.record_fields.specs.Runs.{numbers, linear, weights, value-count};
 ghost use Rattle.record.specs.Readers.{loop-reader, certificate-reader, reads, fills};
 ghost use Rattle.record_read.specs.Unpacks.{refusal, list-of, Sized, unpacked, unpacks};
-use record_check::Checked;
 use record::Reading;
+use record_check::Checked;
 
 // ---- runs of numbers of one form, from a place of the bytes on, into the list from an index on
 

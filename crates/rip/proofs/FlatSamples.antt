@@ -15,15 +15,15 @@ writings-flat = refl
 
 pub verdicts-flat :
     (flat-verdict (record { number = 6; place = 8; about = 2; outcome = Nothing })
-      ≡ record { number = 6; place = 8; «record» = 2; outcome = 0; start = pos 0; fall = pos 0; grade = 0 })
+    ≡ record { number = 6; place = 8; «record» = 2; outcome = 0; start = pos 0; fall = pos 0; grade = 0 })
     × (flat-verdict (record { number = 0; place = 0; about = 0; outcome = Ranking (negsuc 6) (pos 9) })
-      ≡ record { number = 0; place = 0; «record» = 0; outcome = 2; start = negsuc 6; fall = pos 9; grade = 0 })
+    ≡ record { number = 0; place = 0; «record» = 0; outcome = 2; start = negsuc 6; fall = pos 9; grade = 0 })
     × (flat-verdict (record { number = 0; place = 0; about = 0; outcome = Exclusion Whole })
-      ≡ record { number = 0; place = 0; «record» = 0; outcome = 3; start = pos 0; fall = pos 0; grade = 1 })
+    ≡ record { number = 0; place = 0; «record» = 0; outcome = 3; start = pos 0; fall = pos 0; grade = 1 })
     × (flat-verdict (record { number = 0; place = 0; about = 0; outcome = Exclusion Fractions })
-      ≡ record { number = 0; place = 0; «record» = 0; outcome = 3; start = pos 0; fall = pos 0; grade = 2 })
+    ≡ record { number = 0; place = 0; «record» = 0; outcome = 3; start = pos 0; fall = pos 0; grade = 2 })
     × (flat-verdict (record { number = 0; place = 0; about = 0; outcome = Lasso (pos 73) (pos 33) })
-      ≡ record { number = 0; place = 0; «record» = 0; outcome = 4; start = pos 73; fall = pos 33; grade = 0 })
+    ≡ record { number = 0; place = 0; «record» = 0; outcome = 4; start = pos 73; fall = pos 33; grade = 0 })
 unfolding numbers grade-number
 verdicts-flat = (refl, refl, refl, refl, refl)
 

@@ -82,9 +82,9 @@ loop-given = record { counts-in = search; rows-in = search; fits = omega arith }
 
 pub ranking-reached :
     judges (judge-of
-        (bytes-in (loop-writer 2 3 (Rows.unlike-loop .rows) (replicate 46 0)) (replicate 46 0))
-        (bytes-in (writer 2 2 3 (ranking-values (Rows.unlike-ranking .Y) (Rows.unlike-ranking .Z)) (replicate 18 0)) (replicate 18 0))
-        (pos 0 ∷ pos 0 ∷ [])) .number
+    (bytes-in (loop-writer 2 3 (Rows.unlike-loop .rows) (replicate 46 0)) (replicate 46 0))
+    (bytes-in (writer 2 2 3 (ranking-values (Rows.unlike-ranking .Y) (Rows.unlike-ranking .Z)) (replicate 18 0)) (replicate 18 0))
+    (pos 0 ∷ pos 0 ∷ [])) .number
     ≡ 0
 unfolding Theory.computing multipliers _to_ Each
 ranking-reached =

@@ -1,0 +1,129 @@
+-- `judge_lasso::lasso` meets its contract: start, kept and the ranking are its conditions. Assumes nothing.
+use Prim.Native.Nat.{_+_, _*_}
+use mathlib.Core.Path.{_≡_}
+use native.Mathlib.Omega.{arith}
+use borrow.Author.Tests.{not-true, not-false}
+use Rattle.judge_conditions.specs.LoopHeld.{loop-held}
+use Rattle.judge_lasso.specs.LassoHeld.{lasso-held, s-place, Y-place}
+use Rattle.judge_longer.specs.LongerHeld.{longer-held}
+use Rattle.judge_lasso.proofs.LassoLaws.{s-small, starts-of, keeps-of, lasso-fails, lasso-ranked}
+use borrow.Author.Needs.{needs}
+use Rattle.judge_lasso.proofs.lasso.Statement.{statement}
+use Rattle.judge_lasso.proofs.lasso.Tie as tie
+
+starts-requires : tie.Need-starts-requires
+starts-requires c κs = search needs
+
+fails-requires : tie.Need-fails-requires
+fails-requires c κs = search needs
+
+returns : tie.Need-returns
+unfolding loop-held
+returns c =
+    let called = c .before .before in
+    let a = called .before .before .before .args in
+    lasso-fails (loop-held (a .rows .now) (a .n) (a .m)) (lasso-held (a .certificate .now) (a .n) (a .m) (a .ms)) (c .fails .result) (a .rank .now)
+    (λ h. called .starts .ensures .no-fails (not-true (called .starts .result) (c .before .if1 .taken)) (starts-of _ _ h)) (c .fails .ensures)
+
+keeps-requires : tie.Need-keeps-requires
+keeps-requires c κs = search needs
+
+fails-requires-2 : tie.Need-fails-requires-2
+fails-requires-2 c κs = search needs
+
+returns-2 : tie.Need-returns-2
+returns-2 c =
+    let called = c .before .before in
+    let a = called .before .before .before .before .before .args in
+    lasso-fails (loop-held (a .rows .now) (a .n) (a .m)) (lasso-held (a .certificate .now) (a .n) (a .m) (a .ms)) (c .fails2 .result) (a .rank .now)
+    (λ h. called .keeps .ensures .no-fails (not-true (called .keeps .result) (c .before .if2 .taken)) (keeps-of _ _ h)) (c .fails2 .ensures)
+
+mul-s : tie.Need-mul-s
+mul-s c = search needs
+
+add-s : tie.Need-add-s
+add-s c = search needs
+
+mul-s-2 : tie.Need-mul-s-2
+mul-s-2 c = search needs
+
+add-s-2 : tie.Need-add-s-2
+add-s-2 c = search needs
+
+mul-y : tie.Need-mul-y
+mul-y c = search needs
+
+add-y : tie.Need-add-y
+add-y c = search needs
+
+add-y-2 : tie.Need-add-y-2
+add-y-2 c = search needs
+
+mul-y-2 : tie.Need-mul-y-2
+mul-y-2 c = search needs
+
+add-y-3 : tie.Need-add-y-3
+add-y-3 c = search needs
+
+mul-y-3 : tie.Need-mul-y-3
+mul-y-3 c = search needs
+
+add-y-4 : tie.Need-add-y-4
+add-y-4 c = search needs
+
+lasso-ranking-requires : tie.Need-lasso-ranking-requires
+lasso-ranking-requires c κs =
+    let start = c .before .before .before .before .before .before .before in
+    let a = start .args in
+    let h = start .pre .1 in
+    let small = s-small (a .certificate .now) (a .n) (a .m) (a .ms) h in (
+      start .pre .0,
+      h .m-few,
+      h .n-few,
+      omega (arith, small, h .n-few, h .m-few, h .ms-few),
+      omega (arith, small),
+      omega (arith, h .inside),
+      omega (arith, h .inside),
+      start .pre .2,
+    )
+
+same-length : tie.Need-same-length
+same-length c = search needs
+
+returns-3 : tie.Need-returns-3
+unfolding loop-held lasso-held longer-held
+returns-3 c =
+    let ranked = c .before .lasso-ranking in
+    let kept = c .before .before .before .before in
+    let started = kept .before .before in
+    let a = started .before .before .before .args in
+    let place : s-place (a .n) (a .ms) + 2 * a .n + 10 + 2 * a .ms + 2 * a .m ≡ Y-place (a .n) (a .m) (a .ms) = omega arith in
+    lasso-ranked (loop-held (a .rows .now) (a .n) (a .m)) (lasso-held (a .certificate .now) (a .n) (a .m) (a .ms)) (ranked .result) (a .rank .now) (ranked .last .1 .1 .1 .1 .1 .1 .0)
+    (started .starts .ensures .yes-holds (not-false (started .starts .result) (kept .before .if1 .left)))
+    (kept .keeps .ensures .yes-holds (not-false (kept .keeps .result) (c .before .before .before .if2 .left)))
+    (rw place at (ranked .ensures))
+
+pub lasso-spec : {M : Type 1} → statement M
+lasso-spec =
+    tie.close
+    (tie.spec
+    starts-requires
+    fails-requires
+    returns
+    keeps-requires
+    fails-requires-2
+    returns-2
+    mul-s
+    add-s
+    mul-s-2
+    add-s-2
+    mul-y
+    add-y
+    add-y-2
+    mul-y-2
+    add-y-3
+    mul-y-3
+    add-y-4
+    lasso-ranking-requires
+    same-length
+    returns-3)
