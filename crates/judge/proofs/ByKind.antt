@@ -23,13 +23,13 @@ use Rattle.verdict.specs.Outcomes.{grade-of}
 use Rattle.verdict.specs.Pairs.{loop-record, certificate-record, kind-of, variables-of}
 use Rattle.verdict.specs.declared.Outcome.the-variants.{Ranking, Exclusion, Lasso}
 use Rattle.verdict.proofs.Accepted.{Both-sound, shows, room-there, no-room-needed, ranking-conditions, exclusion-conditions, lasso-conditions, accepted-exactly-when-ranking, accepted-exactly-when-exclusion, accepted-exactly-when-lasso, ranking-answers, exclusion-answers, lasso-answers}
-use Rattle.judge.specs.Told.{LoopSound, CertificateSound, refusal-of}
+use Rattle.judge.specs.Told.{first-row, LoopSound, CertificateSound, refusal-of}
 use Rattle.judge.proofs.Held.{loop-is, ranking-is, exclusion-is, lasso-is}
 use Rattle.judge.proofs.Sizes.{loop-kind, counts-are}
 use Rattle.judge.proofs.Ways.{refused-so, at-room, at-conditions}
 
 -- the loop that a sound loop record holds
-pub loop-of : (rows : List ℕ) (n m : ℕ) → LoopSound rows n m → loop-in (loop-record rows) ≡ loop-held rows n m
+pub loop-of : (rows : List ℕ) (n m : ℕ) → LoopSound rows n m → loop-in (loop-record rows) ≡ loop-held rows first-row n m
 unfolding loop-record
 loop-of rows n m l = loop-is (loop-record rows) (loop-kind rows n m l) ∙ rw (← l .n-is, ← l .m-is)
 
@@ -65,7 +65,7 @@ module _ (rows : List ℕ) (n m : ℕ) (l : LoopSound rows n m) (certificate : L
   unfolding judge-of variables-of
   variables-told = sym (l .n-is)
 
-  loop-told : loop-in (j .records .loop-is) ≡ loop-held rows n m
+  loop-told : loop-in (j .records .loop-is) ≡ loop-held rows first-row n m
   unfolding judge-of
   loop-told = loop-of rows n m l
 
@@ -81,7 +81,7 @@ module _ (rows : List ℕ) (n m : ℕ) (l : LoopSound rows n m) (certificate : L
   -- ---- kind 2
 
   module _ (c : CertificateSound is-certificate rows certificate ranking) (r : Ranked) (after : List ℤ)
-      (by : RankedBy r (loop-held rows n m) (ranking-held certificate 6 m) lent after) (room : n ≤ length lent) where
+      (by : RankedBy r (loop-held rows first-row n m) (ranking-held certificate 6 m) lent after) (room : n ≤ length lent) where
     ranking-told : ranking-in (j .records .certificate-is) ≡ ranking-held certificate 6 m
     unfolding judge-of
     ranking-told = ranking-of rows n m l is-certificate certificate c
@@ -118,7 +118,7 @@ module _ (rows : List ℕ) (n m : ℕ) (l : LoopSound rows n m) (certificate : L
   -- ---- kind 3
 
   module _ (c : CertificateSound is-certificate rows certificate exclusion) (holds : Bool)
-      (by : Whether holds (ExclusionHolds (loop-held rows n m) (exclusion-held certificate n))) where
+      (by : Whether holds (ExclusionHolds (loop-held rows first-row n m) (exclusion-held certificate n))) where
     exclusion-told : exclusion-in (j .records .certificate-is) ≡ exclusion-held certificate n
     unfolding judge-of certificate-record is-loop
     exclusion-told =
@@ -146,7 +146,7 @@ module _ (rows : List ℕ) (n m : ℕ) (l : LoopSound rows n m) (certificate : L
 
   module _ (ms : ℕ) (c : CertificateSound is-certificate rows certificate lasso)
       (ms-is : ms ≡ counts-read (certificate-record is-certificate (loop-record rows) certificate) .ms) (r : Ranked)
-      (after : List ℤ) (by : LassoBy r (loop-held rows n m) (lasso-held certificate n m ms) lent after) (room : n ≤ length lent) where
+      (after : List ℤ) (by : LassoBy r (loop-held rows first-row n m) (lasso-held certificate n m ms) lent after) (room : n ≤ length lent) where
     lasso-told : lasso-in (j .records .certificate-is) ≡ lasso-held certificate n m ms
     unfolding judge-of
     lasso-told = lasso-of rows n m l is-certificate certificate ms c ms-is

@@ -12,7 +12,7 @@ use Rattle.record_check.proofs.Answers.{counts-small}
 use Rattle.judge_sums.specs.Places.{RowsIn, MultipliersIn}
 use Rattle.judge_lasso.specs.LassoHeld.{LassoIn}
 use Rattle.verdict.specs.Pairs.{loop-record, certificate-record}
-use Rattle.judge.specs.Told.{LoopSound, CertificateSound}
+use Rattle.judge.specs.Told.{first-row, LoopSound, CertificateSound}
 
 -- ---- the loop
 
@@ -36,7 +36,7 @@ module _ (rows : List ℕ) (n m : ℕ) (l : LoopSound rows n m) where
       let formula : stated-length (loop-record rows) ≡ 6 + m * (4 * n + 4) = rw (loop-kind, ← l .n-is, ← l .m-is) at (loop-says .formula) in
       omega (arith, loop-says .whole, formula)
 
-  pub rows-in : RowsIn rows 10 n m
+  pub rows-in : RowsIn rows first-row n m
   rows-in = record { inside = omega (arith, loop-long); few = omega (arith, m-few); narrow = omega (arith, n-few) }
 
   -- ---- the certificate

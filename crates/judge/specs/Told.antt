@@ -12,6 +12,10 @@ use Rattle.verdict.specs.Pairs.{loop-record, certificate-record}
 use Rattle.verdict.specs.declared.Outcome.the-variants.{Nothing}
 use Rattle.verdict.specs.declared.Verdict.{Verdict}
 
+-- where the first row of a loop record starts
+abbrev pub first-row : ℕ
+first-row = 10
+
 -- a sound loop record over n variables with m rows
 pub record LoopSound (bytes : List ℕ) (n m : ℕ) : Type 0 where
   pub told : first sound (loop-record bytes) ≡ done

@@ -12,6 +12,9 @@ use verdict::Grade;
 use verdict::Outcome;
 use verdict::Verdict;
 
+// Where the first row of a loop record starts.
+pub const FIRST_ROW: usize = 10;
+
 fn refused(about: usize, number: usize, place: usize) -> Verdict
     ensures { λ r. ⌜ r ≡ refusal-of about number place ⌝ }
 {
@@ -31,7 +34,7 @@ fn judge_ranking(rows: &[u8], n: usize, m: usize, certificate: &[u8], rank: &mut
     if rank.len() < n {
         return refused(0, 7, n);
     }
-    let shown = judge_ranking::ranking(rows, n, m, certificate, rank);
+    let shown = judge_ranking::ranking(rows, FIRST_ROW, n, m, certificate, rank);
     if !shown.holds {
         return refused(2, 8, 0);
     }
@@ -51,7 +54,7 @@ fn judge_exclusion(rows: &[u8], n: usize, m: usize, certificate: &[u8]) -> Verdi
     requires { ⌜ LoopSound (now rows) n m × CertificateSound is-certificate (now rows) (now certificate) exclusion ⌝ }
     ensures { λ r. ⌜ ((lent : List ℤ) → Judged (now (rows .entry)) (now (certificate .entry)) lent r lent) ⌝ }
 {
-    if !judge_exclusion::exclusion(rows, n, m, certificate) {
+    if !judge_exclusion::exclusion(rows, FIRST_ROW, n, m, certificate) {
         return refused(2, 8, 0);
     }
     Verdict {
@@ -90,7 +93,7 @@ fn judge_lasso(
     if rank.len() < n {
         return refused(0, 7, n);
     }
-    let shown = judge_lasso::lasso(rows, n, m, certificate, ms, rank);
+    let shown = judge_lasso::lasso(rows, FIRST_ROW, n, m, certificate, ms, rank);
     if !shown.holds {
         return refused(2, 8, 0);
     }

@@ -35,7 +35,7 @@ use Rattle.verdict.proofs.Accepted.{Both-sound, shows, ranking-conditions, lass
 use Rattle.verdict.proofs.BoundAnswers.{State-in, inside-all, state-fits, bounded-exactly-when-ranking, bounded-exactly-when-lasso, ranking-bound-is, lasso-bound-is}
 use Rattle.verdict.proofs.SumsFit.{Ranking-sums-fit, small-state}
 use Rattle.verdict.proofs.SumsFitInBytes.{ranking-sums-fit, lasso-sums-fit-in}
-use Rattle.judge.specs.Told.{LoopSound, CertificateSound}
+use Rattle.judge.specs.Told.{first-row, LoopSound, CertificateSound}
 use Rattle.judge.proofs.ByKind.{loop-of, ranking-of, lasso-of}
 use Rattle.judge.proofs.Sizes.{loop-kind, counts-are}
 use Rattle.judge_bound.specs.Told.{refusal-of, StateFits, Ready}
@@ -83,7 +83,7 @@ module _ (rows : List ℕ) (n m : ℕ) (l : LoopSound rows n m) (certificate : L
   unfolding bound-of
   state-small = small-state state (state-in .each)
 
-  loop-told : loop-in (call .records .loop-is) ≡ loop-held rows n m
+  loop-told : loop-in (call .records .loop-is) ≡ loop-held rows first-row n m
   unfolding bound-of
   loop-told = loop-of rows n m l
 
@@ -102,7 +102,7 @@ module _ (rows : List ℕ) (n m : ℕ) (l : LoopSound rows n m) (certificate : L
   -- ---- kind 2
 
   module _ (c : CertificateSound has-rank rows certificate ranking) (r : Ranked) (before entries : List ℤ)
-      (by : RankedBy r (loop-held rows n m) (ranking-held certificate 6 m) before entries) (long : length entries ≡ 16) where
+      (by : RankedBy r (loop-held rows first-row n m) (ranking-held certificate 6 m) before entries) (long : length entries ≡ 16) where
     ranking-told : ranking-in (call .records .certificate-is) ≡ ranking-held certificate 6 m
     unfolding bound-of
     ranking-told = ranking-of rows n m l has-rank certificate c
@@ -138,7 +138,7 @@ module _ (rows : List ℕ) (n m : ℕ) (l : LoopSound rows n m) (certificate : L
 
   module _ (ms : ℕ) (c : CertificateSound has-rank rows certificate lasso)
       (ms-is : ms ≡ counts-read (certificate-record has-rank (loop-record rows) certificate) .ms) (r : Ranked)
-      (before entries : List ℤ) (by : LassoBy r (loop-held rows n m) (lasso-held certificate n m ms) before entries) (long : length entries ≡ 16) where
+      (before entries : List ℤ) (by : LassoBy r (loop-held rows first-row n m) (lasso-held certificate n m ms) before entries) (long : length entries ≡ 16) where
     lasso-told : lasso-in (call .records .certificate-is) ≡ lasso-held certificate n m ms
     unfolding bound-of
     lasso-told = lasso-of rows n m l has-rank certificate ms c ms-is

@@ -74,7 +74,7 @@ fn bound_ranking(rows: &[u8], n: usize, m: usize, certificate: &[u8], state: &[i
     ensures { λ r. ⌜ r ≡ bounds (bound-of (now (rows .entry)) (now (certificate .entry)) (now (state .entry))) ⌝ }
 {
     let mut entries = [0i64; 16];
-    let shown = judge_ranking::ranking(rows, n, m, certificate, &mut entries);
+    let shown = judge_ranking::ranking(rows, judge::FIRST_ROW, n, m, certificate, &mut entries);
     if !shown.holds {
         return refused(2, 8, 0);
     }
@@ -117,7 +117,7 @@ fn bound_lasso(
     ensures { λ r. ⌜ r ≡ bounds (bound-of (now (rows .entry)) (now (certificate .entry)) (now (state .entry))) ⌝ }
 {
     let mut entries = [0i64; 16];
-    let shown = judge_lasso::lasso(rows, n, m, certificate, ms, &mut entries);
+    let shown = judge_lasso::lasso(rows, judge::FIRST_ROW, n, m, certificate, ms, &mut entries);
     if !shown.holds {
         return refused(2, 8, 0);
     }

@@ -55,18 +55,18 @@ module _ (rows : List ℕ) (row n : ℕ) (certificate : List ℕ) (direction ste
 
 -- ---- all rows
 
-module _ (rows certificate : List ℕ) (n m : ℕ) where
+module _ (rows certificate : List ℕ) (start n m : ℕ) where
   abbrev At : ℕ → Type 0
-  At i = RowExcluded (exclusion-held certificate n) (rowFrom rows n (rowAt 10 n i))
+  At i = RowExcluded (exclusion-held certificate n) (rowFrom rows n (rowAt start n i))
 
-  pub rows-hold : ((i : ℕ) → i < m → At i) → ExclusionHolds (loop-held rows n m) (exclusion-held certificate n)
+  pub rows-hold : ((i : ℕ) → i < m → At i) → ExclusionHolds (loop-held rows start n m) (exclusion-held certificate n)
   unfolding loop-held rowsFrom
   rows-hold h = record { direction = each-tabulate _ m _ (λ i k. h i k .direction); step = each-tabulate _ m _ (λ i k. h i k .step) }
 
-  pub row-holds : ExclusionHolds (loop-held rows n m) (exclusion-held certificate n) → (i : ℕ) → i < m → At i
+  pub row-holds : ExclusionHolds (loop-held rows start n m) (exclusion-held certificate n) → (i : ℕ) → i < m → At i
   unfolding loop-held rowsFrom
   row-holds h i below =
-      let row : ℕ → Row = λ i. rowFrom rows n (rowAt 10 n i) in
+      let row : ℕ → Row = λ i. rowFrom rows n (rowAt start n i) in
       let inside : i < length (tabulate m row) = rw length-tabulate below in
       let none : Row = record { now = []; next = []; right = pos 0 } in
       record {

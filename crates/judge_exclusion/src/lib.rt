@@ -25,12 +25,12 @@ fn row_excluded(rows: &[u8], row: usize, n: usize, certificate: &[u8]) -> bool
 }
 
 // Kind 3, every row.
-pub fn exclusion(rows: &[u8], n: usize, m: usize, certificate: &[u8]) -> bool
-    requires { ⌜ RowsIn (now rows) 10 n m × (n ≤ 16) × (8 + 12 * n ≤ length (now certificate)) ⌝ }
-    ensures { λ r. ⌜ Whether r (ExclusionHolds (loop-held (now (rows .entry)) n m) (exclusion-held (now (certificate .entry)) n)) ⌝ }
+pub fn exclusion(rows: &[u8], start: usize, n: usize, m: usize, certificate: &[u8]) -> bool
+    requires { ⌜ RowsIn (now rows) start n m × (n ≤ 16) × (8 + 12 * n ≤ length (now certificate)) ⌝ }
+    ensures { λ r. ⌜ Whether r (ExclusionHolds (loop-held (now (rows .entry)) start n m) (exclusion-held (now (certificate .entry)) n)) ⌝ }
 {
     let stride = 4 * n + 4;
-    let mut at = 10;
+    let mut at = start;
     for i in 0..m {
         if !row_excluded(rows, at, n, certificate) {
             return false;

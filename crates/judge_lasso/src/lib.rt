@@ -30,16 +30,16 @@ fn starts(certificate: &[u8], n: usize, m: usize, ms: usize) -> bool
 }
 
 // Kept: HA - h0 s = 0, HA' = -k2 s, Hb + h0 s0 <= k2 s0.
-fn keeps(rows: &[u8], n: usize, m: usize, certificate: &[u8], ms: usize) -> bool
-    requires { ⌜ RowsIn (now rows) 10 n m × LassoIn (now certificate) n m ms ⌝ }
-    ensures { λ r. ⌜ Whether r (Keeps (loop-held (now (rows .entry)) n m) (lasso-held (now (certificate .entry)) n m ms)) ⌝ }
+fn keeps(rows: &[u8], start: usize, n: usize, m: usize, certificate: &[u8], ms: usize) -> bool
+    requires { ⌜ RowsIn (now rows) start n m × LassoIn (now certificate) n m ms ⌝ }
+    ensures { λ r. ⌜ Whether r (Keeps (loop-held (now (rows .entry)) start n m) (lasso-held (now (certificate .entry)) n m ms)) ⌝ }
 {
     let s = 8 + ms * (4 * n + 4);
     let k2 = s + 2 * n + 6 + 2 * ms;
     let h = k2 + 2;
     judge_invariant::carried(
         rows,
-        10,
+        start,
         n,
         m,
         certificate,
@@ -54,22 +54,24 @@ fn keeps(rows: &[u8], n: usize, m: usize, certificate: &[u8], ms: usize) -> bool
 // list where all hold.
 pub fn lasso(
     rows: &[u8],
+    start: usize,
     n: usize,
     m: usize,
     certificate: &[u8],
     ms: usize,
     rank: &mut [i64],
 ) -> Ranked
-    requires { ⌜ RowsIn (now rows) 10 n m × LassoIn (now certificate) n m ms × (n ≤ length (now rank)) ⌝ }
-    ensures { λ r. ⌜ LassoBy r (loop-held (now (rows .entry)) n m) (lasso-held (now (certificate .entry)) n m ms) (now (rank .entry)) (now (rank .exit)) ⌝ }
+    requires { ⌜ RowsIn (now rows) start n m × LassoIn (now certificate) n m ms × (n ≤ length (now rank)) ⌝ }
+    ensures { λ r. ⌜ LassoBy r (loop-held (now (rows .entry)) start n m) (lasso-held (now (certificate .entry)) n m ms) (now (rank .entry)) (now (rank .exit)) ⌝ }
 {
     if !starts(certificate, n, m, ms) {
         return judge_ranking::fails();
     }
-    if !keeps(rows, n, m, certificate, ms) {
+    if !keeps(rows, start, n, m, certificate, ms) {
         return judge_ranking::fails();
     }
     let s = 8 + ms * (4 * n + 4);
     let y = s + 2 * n + 10 + 2 * ms + 2 * m;
-    judge_longer::lasso_ranking(rows, n, m, certificate, y, s, rank)
+    let s0 = endian::i32_at(certificate, s + 2 * n);
+    judge_longer::longer_ranking(rows, start, n, m, certificate, y, s, s0, rank)
 }

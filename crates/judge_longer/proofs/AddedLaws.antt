@@ -1,4 +1,4 @@
--- A lasso's ranking: sums over the loop with the added row are sums over the loop and one term more.
+-- One row more: sums over the loop with the added row are sums over the loop and one term more.
 use mathlib.Core.Path.{_≡_, refl, sym, ap, _∙_}
 use Prim.Native.Nat.{ℕ, _+_, _*_, _<_, _≤_}
 use mathlib.Core.List.{List, [], _∷_, _++_}
@@ -17,7 +17,7 @@ use Rattle.whole.proofs.SumLaws.{sum-append}
 use Rattle.whole.proofs.Tables.{length-tabulate, tabulate-more}
 use Rattle.endian.specs.Numbers.{littleAt}
 use Rattle.judge_sums.specs.Lists.{multipliersFrom, entriesFrom, rowsFrom}
-use Rattle.judge_sums.specs.Places.{entryAt, rightAt, multiplierAt, liftTerm, ColumnOf, SumsOf, AllModest, mostEntry}
+use Rattle.judge_sums.specs.Places.{entryAt, multiplierAt, liftTerm, ColumnOf, SumsOf, AllModest, mostEntry}
 use Rattle.judge_sums.specs.Running.{Modest, SumOf}
 use Rattle.judge_sums.proofs.LiftLaws.{sums-size, column-in}
 use Rattle.theory.specs.Loops.{A, A′, b}
@@ -43,11 +43,11 @@ sum-one-more bytes place m f rows extra long =
     (sum-append (tabulate m (λ i. multiplierAt bytes (place + 2 * i))) _ f rows (extra ∷ []) (length-tabulate m _ ∙ sym long) ∙
     ap (λ (z : ℤ). sum (tabulate m (λ i. multiplierAt bytes (place + 2 * i))) f rows +ℤ z) (one-term (multiplierAt bytes (place + 2 * m)) f extra))
 
-module _ (rows certificate : List ℕ) (n m place s : ℕ) where
+module _ (rows certificate : List ℕ) (start n m place s : ℕ) (right : ℤ) where
   abbrev long-rows : List Row
-  long-rows = longer-held rows n m certificate s .rows
+  long-rows = longer-held rows start n m certificate s right .rows
 
-  rows-long : length (rowsFrom rows n 10 m) ≡ m
+  rows-long : length (rowsFrom rows n start m) ≡ m
   unfolding rowsFrom
   rows-long = length-tabulate m _
 
@@ -63,19 +63,19 @@ module _ (rows certificate : List ℕ) (n m place s : ℕ) where
 
   pub now-added : (j : ℕ) → j < n
       → sum (multipliersFrom certificate place (m + 1)) (A j) long-rows
-      ≡ sum (multipliersFrom certificate place m) (A j) (rowsFrom rows n 10 m) -ℤ multiplierAt certificate (place + 2 * m) *ℤ entryAt certificate (s + 2 * j)
+      ≡ sum (multipliersFrom certificate place m) (A j) (rowsFrom rows n start m) -ℤ multiplierAt certificate (place + 2 * m) *ℤ entryAt certificate (s + 2 * j)
   unfolding longer-held loop-held
-  now-added j below = sum-one-more certificate place m (A j) (rowsFrom rows n 10 m) _ rows-long ∙ rw (minus-entry j below, *ℤ-neg)
+  now-added j below = sum-one-more certificate place m (A j) (rowsFrom rows n start m) _ rows-long ∙ rw (minus-entry j below, *ℤ-neg)
 
   pub next-added : (j : ℕ) → j < n
-      → sum (multipliersFrom certificate place (m + 1)) (A′ j) long-rows ≡ sum (multipliersFrom certificate place m) (A′ j) (rowsFrom rows n 10 m)
+      → sum (multipliersFrom certificate place (m + 1)) (A′ j) long-rows ≡ sum (multipliersFrom certificate place m) (A′ j) (rowsFrom rows n start m)
   unfolding longer-held loop-held
-  next-added j below = sum-one-more certificate place m (A′ j) (rowsFrom rows n 10 m) _ rows-long ∙ rw (getD-replicate n j (pos 0) (pos 0) below, *ℤ-zero, +ℤ-idr)
+  next-added j below = sum-one-more certificate place m (A′ j) (rowsFrom rows n start m) _ rows-long ∙ rw (getD-replicate n j (pos 0) (pos 0) below, *ℤ-zero, +ℤ-idr)
 
   pub right-added : sum (multipliersFrom certificate place (m + 1)) b long-rows
-      ≡ sum (multipliersFrom certificate place m) b (rowsFrom rows n 10 m) +ℤ multiplierAt certificate (place + 2 * m) *ℤ rightAt certificate (s + 2 * n)
+      ≡ sum (multipliersFrom certificate place m) b (rowsFrom rows n start m) +ℤ multiplierAt certificate (place + 2 * m) *ℤ right
   unfolding longer-held loop-held
-  right-added = sum-one-more certificate place m b (rowsFrom rows n 10 m) _ rows-long
+  right-added = sum-one-more certificate place m b (rowsFrom rows n start m) _ rows-long
 
 -- ---- the added row's terms, taken from a list of totals one after another
 
@@ -109,9 +109,9 @@ module _ (multiplier : ℕ) (certificate : List ℕ) (s : ℕ) (before : List �
   next-modest k width mid h modest below = rw (h .stays k (omega arith)) (modest k below)
 
 -- what is left of a loop's totals is small
-pub taken-modest : (rows certificate : List ℕ) (n m place s last : ℕ) (sums taken : List ℤ) → m ≤ 64 → SumsOf certificate place rows 10 n m sums → RowTaken last certificate s n sums taken → AllModest (2 * n) taken
-taken-modest rows certificate n m place s last sums taken few h row k below =
-    let size = sums-size certificate place rows 10 n m sums h k below in
+pub taken-modest : (rows certificate : List ℕ) (start n m place s last : ℕ) (sums taken : List ℤ) → m ≤ 64 → SumsOf certificate place rows start n m sums → RowTaken last certificate s n sums taken → AllModest (2 * n) taken
+taken-modest rows certificate start n m place s last sums taken few h row k below =
+    let size = sums-size certificate place rows start n m sums h k below in
     let most = mul-le-mul-right 2147450880 few in
     elim (decLt k n) [
       | yes earlier ↦ omega (arith, row .small k earlier, size, most)
@@ -120,40 +120,40 @@ taken-modest rows certificate n m place s last sums taken few h row k below =
 
 -- ---- the totals of every column
 
-module _ (rows certificate : List ℕ) (n m place s : ℕ) (sums taken : List ℤ) (lift : ℤ) (last j : ℕ) (below : j < n) (few : m ≤ 65)
-    (column : ColumnOf certificate place rows 10 n j m (getD sums j (pos 0) -ℤ lift) (getD sums (n + j) (pos 0) -ℤ lift)) (row : RowTaken last certificate s n sums taken) where
+module _ (rows certificate : List ℕ) (start n m place s : ℕ) (right : ℤ) (sums taken : List ℤ) (lift : ℤ) (last j : ℕ) (below : j < n) (few : m ≤ 65)
+    (column : ColumnOf certificate place rows start n j m (getD sums j (pos 0) -ℤ lift) (getD sums (n + j) (pos 0) -ℤ lift)) (row : RowTaken last certificate s n sums taken) where
   over-now : last ≡ littleAt 2 certificate (place + 2 * m)
-      → getD taken j (pos 0) -ℤ lift ≡ sum (multipliersFrom certificate place (m + 1)) (A j) (longer-held rows n m certificate s .rows)
+      → getD taken j (pos 0) -ℤ lift ≡ sum (multipliersFrom certificate place (m + 1)) (A j) (longer-held rows start n m certificate s right .rows)
   unfolding multiplierAt
   over-now told =
       rw (
         row .taken j below,
         exchanged (getD sums j (pos 0)) (pos last *ℤ entryAt certificate (s + 2 * j)) lift,
-        now-is certificate place rows 10 n j m _ _ few column below,
+        now-is certificate place rows start n j m _ _ few column below,
         told,
-      ) (sym (now-added rows certificate n m place s j below))
+      ) (sym (now-added rows certificate start n m place s right j below))
     where
       exchanged : (x t l : ℤ) → x -ℤ t -ℤ l ≡ x -ℤ l -ℤ t
       exchanged x t l = solve ((v x ⊝ v t) ⊝ v l) ((v x ⊝ v l) ⊝ v t) (omega arith)
 
-  over-next : getD taken (n + j) (pos 0) -ℤ lift ≡ sum (multipliersFrom certificate place (m + 1)) (A′ j) (longer-held rows n m certificate s .rows)
+  over-next : getD taken (n + j) (pos 0) -ℤ lift ≡ sum (multipliersFrom certificate place (m + 1)) (A′ j) (longer-held rows start n m certificate s right .rows)
   over-next =
-      rw (row .stays (n + j) (omega arith)) (next-is certificate place rows 10 n j m _ _ few column below) ∙ sym (next-added rows certificate n m place s j below)
+      rw (row .stays (n + j) (omega arith)) (next-is certificate place rows start n j m _ _ few column below) ∙ sym (next-added rows certificate start n m place s right j below)
 
 -- the loop's lifted totals, those over A less the added row's term, and less the lifts
-pub totalled-longer : (rows certificate : List ℕ) (n m place s : ℕ) (ys ys′ : List ℤ) (ylift : ℤ) (zs zs′ : List ℤ) (zlift : ℤ) (y-last z-last : ℕ) → m ≤ 65
+pub totalled-longer : (rows certificate : List ℕ) (start n m place s : ℕ) (right : ℤ) (ys ys′ : List ℤ) (ylift : ℤ) (zs zs′ : List ℤ) (zlift : ℤ) (y-last z-last : ℕ) → m ≤ 65
     → let z-place = place + 2 * (m + 1) in
-    SumsOf certificate place rows 10 n m ys → RowTaken y-last certificate s n ys ys′ → SumOf m mostEntry (liftTerm certificate place) ylift
-    → SumsOf certificate z-place rows 10 n m zs → RowTaken z-last certificate s n zs zs′ → SumOf m mostEntry (liftTerm certificate z-place) zlift
+    SumsOf certificate place rows start n m ys → RowTaken y-last certificate s n ys ys′ → SumOf m mostEntry (liftTerm certificate place) ylift
+    → SumsOf certificate z-place rows start n m zs → RowTaken z-last certificate s n zs zs′ → SumOf m mostEntry (liftTerm certificate z-place) zlift
     → y-last ≡ littleAt 2 certificate (place + 2 * m) → z-last ≡ littleAt 2 certificate (z-place + 2 * m)
-    → Totalled ys′ ylift zs′ zlift (longer-held rows n m certificate s) (ranking-held certificate place (m + 1))
+    → Totalled ys′ ylift zs′ zlift (longer-held rows start n m certificate s right) (ranking-held certificate place (m + 1))
 unfolding longer-held loop-held ranking-held
-totalled-longer rows certificate n m place s ys ys′ ylift zs zs′ zlift y-last z-last few y y-taken y-lift z z-taken z-lift y-told z-told j below =
+totalled-longer rows certificate start n m place s right ys ys′ ylift zs zs′ zlift y-last z-last few y y-taken y-lift z z-taken z-lift y-told z-told j below =
     let z-place = place + 2 * (m + 1) in
-    let under-y = column-in certificate place rows 10 n m j ys ylift y y-lift below in
-    let under-z = column-in certificate z-place rows 10 n m j zs zlift z z-lift below in (
-      over-now rows certificate n m place s ys ys′ ylift y-last j below few under-y y-taken y-told,
-      over-next rows certificate n m place s ys ys′ ylift y-last j below few under-y y-taken,
-      over-now rows certificate n m z-place s zs zs′ zlift z-last j below few under-z z-taken z-told,
-      over-next rows certificate n m z-place s zs zs′ zlift z-last j below few under-z z-taken,
+    let under-y = column-in certificate place rows start n m j ys ylift y y-lift below in
+    let under-z = column-in certificate z-place rows start n m j zs zlift z z-lift below in (
+      over-now rows certificate start n m place s right ys ys′ ylift y-last j below few under-y y-taken y-told,
+      over-next rows certificate start n m place s right ys ys′ ylift y-last j below few under-y y-taken,
+      over-now rows certificate start n m z-place s right zs zs′ zlift z-last j below few under-z z-taken z-told,
+      over-next rows certificate start n m z-place s right zs zs′ zlift z-last j below few under-z z-taken,
     )

@@ -1,7 +1,8 @@
-// A ranking over a loop with one row added at the end (01, "Lasso"): the loop's totals, less the added row's terms.
+// A ranking over a loop with one row added at the end (01, "Lasso"): the loop's totals, and the added row's terms. The row is -s·x <= right: minus the
+// entries that lie from a place on, and a right side, which comes as a value (s0 of a lasso).
 ghost use mathlib.Core.Path.{_≡_};
-ghost use Prim.Native.Nat.{_+_, _*_, _≤_, _<_};
-ghost use lib.IntN.{pos, natAbs, _+ℤ_, _-ℤ_, _*ℤ_};
+ghost use Prim.Native.Nat.{ℕ, _+_, _*_, _≤_, _<_};
+ghost use lib.IntN.{ℤ, pos, natAbs, _+ℤ_, _-ℤ_, _*ℤ_};
 ghost use lib.ListN.{length};
 ghost use Rattle.whole.specs.Sums.{sum};
 ghost use Rattle.theory.specs.Loops.{b};
@@ -24,7 +25,7 @@ fn less_times(total: i64, k: usize, z: i64) -> i64
     less.sum
 }
 
-// The added row -s·x <= s0 of a lasso: each of the first n totals less its multiplier times s's entry.
+// The added row, whose entries are minus those from a place on: each of the first n totals less the row's multiplier times its entry.
 fn take_row(sums: &mut [i64], n: usize, multiplier: usize, certificate: &[u8], s: usize)
     requires { ⌜ (n ≤ length (now sums)) × AllModest n (now sums) × (multiplier < 65536) × (s < 65536) × (n ≤ 16) × (s + 2 * n ≤ length (now certificate)) ⌝ }
     ensures { λ _. ⌜ RowTaken multiplier (now (certificate .entry)) s n (now (sums .entry)) (now (sums .exit)) ⌝ }
@@ -42,24 +43,30 @@ fn and_times(total: Total, k: usize, z: i64) -> Total
     total.plus(k as i64, z)
 }
 
-// The right sides of a lasso's ranking under one list of multipliers.
-fn lasso_right(rows: &[u8], n: usize, m: usize, certificate: &[u8], place: usize, s: usize) -> Total
-    requires { ⌜ RowsIn (now rows) 10 n m × (m ≤ 64) × (n ≤ 16) × (place < 131072) × (s < 65536)
-        × (place + 2 * (m + 1) ≤ length (now certificate)) × (s + 2 * n + 4 ≤ length (now certificate)) ⌝ }
-    ensures { λ r. ⌜ (r .sum ≡ sum (multipliersFrom (now (certificate .entry)) place (m + 1)) b (longer-held (now (rows .entry)) n m (now (certificate .entry)) s .rows)) × CanGrow (r .sum) ⌝ }
+// The right sides under one list of multipliers, which has one more for the added row's.
+fn longer_right(
+    rows: &[u8],
+    start: usize,
+    n: usize,
+    m: usize,
+    certificate: &[u8],
+    place: usize,
+    right: i64,
+) -> Total
+    requires { ⌜ RowsIn (now rows) start n m × (m ≤ 64) × (n ≤ 16) × (place < 131072)
+        × (place + 2 * (m + 1) ≤ length (now certificate)) × (natAbs right ≤ 2147483648) ⌝ }
+    ensures { λ r. ⌜ ((s : ℕ) → r .sum ≡ sum (multipliersFrom (now (certificate .entry)) place (m + 1)) b (longer-held (now (rows .entry)) start n m (now (certificate .entry)) s right .rows))
+        × CanGrow (r .sum) ⌝ }
 {
-    let right = judge_sums::right_of(rows, 10, n, certificate, place, m);
-    and_times(
-        right,
-        endian::u16_at(certificate, place + 2 * m),
-        endian::i32_at(certificate, s + 2 * n),
-    )
+    let total = judge_sums::right_of(rows, start, n, certificate, place, m);
+    and_times(total, endian::u16_at(certificate, place + 2 * m), right)
 }
 
-// The first three conditions of a lasso's ranking, over the loop with the added row. Where they
-// hold the rank is put.
+// The first three conditions over the loop with the added row -s·x <= right, whatever its right side. Where they hold the
+// rank is put.
 fn longer_columns(
     rows: &[u8],
+    start: usize,
     n: usize,
     m: usize,
     certificate: &[u8],
@@ -67,15 +74,15 @@ fn longer_columns(
     s: usize,
     rank: &mut [i64],
 ) -> bool
-    requires { ⌜ RowsIn (now rows) 10 n m × (m ≤ 64) × (n ≤ 16) × (place < 65536) × (s < 65536)
-        × (place + 4 * (m + 1) ≤ length (now certificate)) × (s + 2 * n + 4 ≤ length (now certificate)) × (n ≤ length (now rank)) ⌝ }
-    ensures { λ r. ⌜ ColumnsBy r (longer-held (now (rows .entry)) n m (now (certificate .entry)) s) (ranking-held (now (certificate .entry)) place (m + 1))
-        (now (rank .entry)) (now (rank .exit)) ⌝ }
+    requires { ⌜ RowsIn (now rows) start n m × (m ≤ 64) × (n ≤ 16) × (place < 65536) × (s < 65536)
+        × (place + 4 * (m + 1) ≤ length (now certificate)) × (s + 2 * n ≤ length (now certificate)) × (n ≤ length (now rank)) ⌝ }
+    ensures { λ r. ⌜ ((right : ℤ) → ColumnsBy r (longer-held (now (rows .entry)) start n m (now (certificate .entry)) s right) (ranking-held (now (certificate .entry)) place (m + 1))
+        (now (rank .entry)) (now (rank .exit))) ⌝ }
 {
     let z = place + 2 * (m + 1);
     let mut ys = [0i64; 32];
     let mut zs = [0i64; 32];
-    judge_sums::add_rows(&mut ys, &mut zs, rows, 10, n, certificate, place, z, m);
+    judge_sums::add_rows(&mut ys, &mut zs, rows, start, n, certificate, place, z, m);
     take_row(
         &mut ys,
         n,
@@ -95,28 +102,30 @@ fn longer_columns(
     judge_ranking::rank_columns(&ys, &zs, n, ylift.sum, zlift.sum, rank)
 }
 
-// The ranking of kind 4: the four conditions over the loop with the added row.
-pub fn lasso_ranking(
+// The four conditions over the loop with the added row -s·x <= right.
+pub fn longer_ranking(
     rows: &[u8],
+    start: usize,
     n: usize,
     m: usize,
     certificate: &[u8],
     place: usize,
     s: usize,
+    right: i64,
     rank: &mut [i64],
 ) -> Ranked
-    requires { ⌜ RowsIn (now rows) 10 n m × (m ≤ 64) × (n ≤ 16) × (place < 65536) × (s < 65536)
-        × (place + 4 * (m + 1) ≤ length (now certificate)) × (s + 2 * n + 4 ≤ length (now certificate)) × (n ≤ length (now rank)) ⌝ }
-    ensures { λ r. ⌜ RankedBy r (longer-held (now (rows .entry)) n m (now (certificate .entry)) s) (ranking-held (now (certificate .entry)) place (m + 1))
+    requires { ⌜ RowsIn (now rows) start n m × (m ≤ 64) × (n ≤ 16) × (place < 65536) × (s < 65536)
+        × (place + 4 * (m + 1) ≤ length (now certificate)) × (s + 2 * n ≤ length (now certificate)) × (natAbs right ≤ 2147483648) × (n ≤ length (now rank)) ⌝ }
+    ensures { λ r. ⌜ RankedBy r (longer-held (now (rows .entry)) start n m (now (certificate .entry)) s right) (ranking-held (now (certificate .entry)) place (m + 1))
         (now (rank .entry)) (now (rank .exit)) ⌝ }
 {
-    let yb = lasso_right(rows, n, m, certificate, place, s);
-    let zb = lasso_right(rows, n, m, certificate, place + 2 * (m + 1), s);
+    let yb = longer_right(rows, start, n, m, certificate, place, right);
+    let zb = longer_right(rows, start, n, m, certificate, place + 2 * (m + 1), right);
     let told = judge_ranking::shown(yb.sum, zb.sum);
     if !told.holds {
         return told;
     }
-    if !longer_columns(rows, n, m, certificate, place, s, rank) {
+    if !longer_columns(rows, start, n, m, certificate, place, s, rank) {
         return judge_ranking::fails();
     }
     told

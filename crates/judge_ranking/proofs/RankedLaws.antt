@@ -9,6 +9,9 @@ use lib.IntN.{ℤ, pos, _-ℤ_, +ℤ-invr}
 use lib.ListN.{length, getD, set, drop}
 use lib.Seq.{drop-cons, append-snoc, set-at}
 use lib.Signed.{_<ℤ_, _≤ℤ_, clashℤ}
+use mir.Syntax.{w64}
+use mir.Val.{ofZ, toZ}
+use mir.Facts.{toZ-ofZ}
 use Rattle.whole.specs.Sums.{sum, tabulate}
 use Rattle.whole.proofs.SumLaws.{sum-add, sum-less-weights}
 use Rattle.whole.proofs.Tables.{length-tabulate, tabulate-more, tabulate-same}
@@ -17,6 +20,8 @@ use Rattle.theory.specs.Rankings.{Ranking, RankingHolds, rank, start, fall}
 use Rattle.theory.proofs.RankingTheorems.{no-difference}
 use Rattle.judge_ranking.specs.RankedBy.{ColumnAt, Totalled, RanksBy, ColumnsBy, nothing, Shows, RankedBy}
 use Rattle.judge_ranking.specs.declared.Ranked.{Ranked}
+use Rattle.judge_sums.specs.Running.{CanGrow}
+use Rattle.judge_conditions.proofs.Totals.{grown-fits}
 use Rattle.judge_conditions.proofs.WhetherLaws.{answer-yes, answer-no, answer-by}
 
 module _ (loop : Loop) (c : Ranking) where
@@ -74,6 +79,11 @@ shows-nothing yb zb r e h =
       fall-is = λ t. absurd (false≢true t);
       otherwise = λ t. refl;
     })
+
+-- what is shown of two totals, as they are passed on, is shown of the sums that they are
+pub shown-of : (y-total z-total yb zb : ℤ) (r : Ranked) → CanGrow y-total → CanGrow z-total → y-total ≡ yb → z-total ≡ zb
+    → Shows (toZ w64 (ofZ w64 y-total)) (toZ w64 (ofZ w64 z-total)) r → Shows yb zb r
+shown-of y-total z-total yb zb r y-grows z-grows y-is z-is h = rw (toZ-ofZ (grown-fits y-grows), toZ-ofZ (grown-fits z-grows), y-is, z-is) at h
 
 -- ---- the first three conditions and the fourth
 

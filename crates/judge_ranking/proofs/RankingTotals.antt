@@ -25,18 +25,18 @@ column-decided answer ya ya2 za za2 ya-grows ya2-grows za-grows za2-grows d =
     rw (toZ-ofZ (grown-fits ya-grows), toZ-ofZ (grown-fits ya2-grows), toZ-ofZ (grown-fits za-grows), toZ-ofZ (grown-fits za2-grows)) at d
 
 -- the lifted totals of a ranking record's rows, less the lifts
-pub totalled : (rows certificate : List ℕ) (n m place : ℕ) (ys : List ℤ) (ylift : ℤ) (zs : List ℤ) (zlift : ℤ) → m ≤ 65
-    → SumsOf certificate place rows 10 n m ys → SumOf m mostEntry (liftTerm certificate place) ylift
-    → SumsOf certificate (place + 2 * m) rows 10 n m zs → SumOf m mostEntry (liftTerm certificate (place + 2 * m)) zlift
-    → Totalled ys ylift zs zlift (loop-held rows n m) (ranking-held certificate place m)
+pub totalled : (rows certificate : List ℕ) (start n m place : ℕ) (ys : List ℤ) (ylift : ℤ) (zs : List ℤ) (zlift : ℤ) → m ≤ 65
+    → SumsOf certificate place rows start n m ys → SumOf m mostEntry (liftTerm certificate place) ylift
+    → SumsOf certificate (place + 2 * m) rows start n m zs → SumOf m mostEntry (liftTerm certificate (place + 2 * m)) zlift
+    → Totalled ys ylift zs zlift (loop-held rows start n m) (ranking-held certificate place m)
 unfolding loop-held ranking-held
-totalled rows certificate n m place ys ylift zs zlift few y y-lift z z-lift j below =
-    let under-y = column-in certificate place rows 10 n m j ys ylift y y-lift below in
-    let under-z = column-in certificate (place + 2 * m) rows 10 n m j zs zlift z z-lift below in (
-      now-is certificate place rows 10 n j m _ _ few under-y below,
-      next-is certificate place rows 10 n j m _ _ few under-y below,
-      now-is certificate (place + 2 * m) rows 10 n j m _ _ few under-z below,
-      next-is certificate (place + 2 * m) rows 10 n j m _ _ few under-z below,
+totalled rows certificate start n m place ys ylift zs zlift few y y-lift z z-lift j below =
+    let under-y = column-in certificate place rows start n m j ys ylift y y-lift below in
+    let under-z = column-in certificate (place + 2 * m) rows start n m j zs zlift z z-lift below in (
+      now-is certificate place rows start n j m _ _ few under-y below,
+      next-is certificate place rows start n j m _ _ few under-y below,
+      now-is certificate (place + 2 * m) rows start n j m _ _ few under-z below,
+      next-is certificate (place + 2 * m) rows start n j m _ _ few under-z below,
     )
 
 -- a list of zeros to start from

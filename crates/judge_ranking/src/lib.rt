@@ -111,14 +111,21 @@ pub fn rank_columns(
 
 // The first three conditions of kind 2: YA' = 0; (Y - Z)A = 0; Z(A + A') = 0. Where they hold the
 // rank is put.
-fn loop_columns(rows: &[u8], n: usize, m: usize, certificate: &[u8], rank: &mut [i64]) -> bool
-    requires { ⌜ RowsIn (now rows) 10 n m × (n ≤ 16) × (m ≤ 64) × MultipliersIn (now certificate) (6 + 2 * m) m × (n ≤ length (now rank)) ⌝ }
-    ensures { λ r. ⌜ ColumnsBy r (loop-held (now (rows .entry)) n m) (ranking-held (now (certificate .entry)) 6 m) (now (rank .entry)) (now (rank .exit)) ⌝ }
+fn loop_columns(
+    rows: &[u8],
+    start: usize,
+    n: usize,
+    m: usize,
+    certificate: &[u8],
+    rank: &mut [i64],
+) -> bool
+    requires { ⌜ RowsIn (now rows) start n m × (n ≤ 16) × (m ≤ 64) × MultipliersIn (now certificate) (6 + 2 * m) m × (n ≤ length (now rank)) ⌝ }
+    ensures { λ r. ⌜ ColumnsBy r (loop-held (now (rows .entry)) start n m) (ranking-held (now (certificate .entry)) 6 m) (now (rank .entry)) (now (rank .exit)) ⌝ }
 {
     let z = 6 + 2 * m;
     let mut ys = [0i64; 32];
     let mut zs = [0i64; 32];
-    judge_sums::add_rows(&mut ys, &mut zs, rows, 10, n, certificate, 6, z, m);
+    judge_sums::add_rows(&mut ys, &mut zs, rows, start, n, certificate, 6, z, m);
     let ylift = judge_sums::lift_of(certificate, 6, m);
     let zlift = judge_sums::lift_of(certificate, z, m);
     rank_columns(&ys, &zs, n, ylift.sum, zlift.sum, rank)
@@ -141,17 +148,24 @@ pub fn shown(yb: i64, zb: i64) -> Ranked
 
 // Kind 2: Zb < 0, which costs least, and the first three. The rank is put into the list where all
 // hold.
-pub fn ranking(rows: &[u8], n: usize, m: usize, certificate: &[u8], rank: &mut [i64]) -> Ranked
-    requires { ⌜ RowsIn (now rows) 10 n m × (n ≤ 16) × (m ≤ 64) × MultipliersIn (now certificate) (6 + 2 * m) m × (n ≤ length (now rank)) ⌝ }
-    ensures { λ r. ⌜ RankedBy r (loop-held (now (rows .entry)) n m) (ranking-held (now (certificate .entry)) 6 m) (now (rank .entry)) (now (rank .exit)) ⌝ }
+pub fn ranking(
+    rows: &[u8],
+    start: usize,
+    n: usize,
+    m: usize,
+    certificate: &[u8],
+    rank: &mut [i64],
+) -> Ranked
+    requires { ⌜ RowsIn (now rows) start n m × (n ≤ 16) × (m ≤ 64) × MultipliersIn (now certificate) (6 + 2 * m) m × (n ≤ length (now rank)) ⌝ }
+    ensures { λ r. ⌜ RankedBy r (loop-held (now (rows .entry)) start n m) (ranking-held (now (certificate .entry)) 6 m) (now (rank .entry)) (now (rank .exit)) ⌝ }
 {
-    let yb = judge_sums::right_of(rows, 10, n, certificate, 6, m);
-    let zb = judge_sums::right_of(rows, 10, n, certificate, 6 + 2 * m, m);
+    let yb = judge_sums::right_of(rows, start, n, certificate, 6, m);
+    let zb = judge_sums::right_of(rows, start, n, certificate, 6 + 2 * m, m);
     let told = shown(yb.sum, zb.sum);
     if !told.holds {
         return told;
     }
-    if !loop_columns(rows, n, m, certificate, rank) {
+    if !loop_columns(rows, start, n, m, certificate, rank) {
         return fails();
     }
     told

@@ -42,7 +42,7 @@ returns-2 c =
     let a = s .args in
     let room : a .n ≤ length (a .rank .now) = omega (arith, called .before .before .if1 .left) in
     let told =
-    lasso-refused (a .rows .now) (a .n) (a .m) (s .pre .0) (a .certificate .now) (a .rank .now) (a .ms) (s .pre .1) (s .pre .2) (called .lasso .result) (called .lasso .last .1 .1 .1 .1 .1 .0) (called .lasso .ensures) room
+    lasso-refused (a .rows .now) (a .n) (a .m) (s .pre .0) (a .certificate .now) (a .rank .now) (a .ms) (s .pre .1) (s .pre .2) (called .lasso .result) (called .lasso .last .1 .1 .1 .1 .1 .1 .0) (called .lasso .ensures) room
     (not-true (called .lasso .result .holds) (c .before .if2 .taken))
     in
     (c .refused2 .ensures ∙ told .0, told .1)
@@ -57,7 +57,7 @@ returns-3 c =
     let a = s .args in
     let room : a .n ≤ length (a .rank .now) = omega (arith, called .before .before .if1 .left) in
     let told =
-    lasso-accepted (a .rows .now) (a .n) (a .m) (s .pre .0) (a .certificate .now) (a .rank .now) (a .ms) (s .pre .1) (s .pre .2) (called .lasso .result) (called .lasso .last .1 .1 .1 .1 .1 .0) (called .lasso .ensures) room
+    lasso-accepted (a .rows .now) (a .n) (a .m) (s .pre .0) (a .certificate .now) (a .rank .now) (a .ms) (s .pre .1) (s .pre .2) (called .lasso .result) (called .lasso .last .1 .1 .1 .1 .1 .1 .0) (called .lasso .ensures) room
     (not-false (called .lasso .result .holds) (c .before .if2 .left))
     in
     let sizes = called .lasso .ok .1 .1 .1 in

@@ -42,7 +42,7 @@ returns-2 c =
     let a = s .args in
     let room : a .n ≤ length (a .rank .now) = omega (arith, called .before .before .if1 .left) in
     let told =
-    ranking-refused (a .rows .now) (a .n) (a .m) (s .pre .0) (a .certificate .now) (a .rank .now) (s .pre .1) (called .ranking .result) (called .ranking .last .1 .1 .1 .1 .0) (called .ranking .ensures) room
+    ranking-refused (a .rows .now) (a .n) (a .m) (s .pre .0) (a .certificate .now) (a .rank .now) (s .pre .1) (called .ranking .result) (called .ranking .last .1 .1 .1 .1 .1 .0) (called .ranking .ensures) room
     (not-true (called .ranking .result .holds) (c .before .if2 .taken))
     in
     (c .refused2 .ensures ∙ told .0, told .1)
@@ -57,7 +57,7 @@ returns-3 c =
     let a = s .args in
     let room : a .n ≤ length (a .rank .now) = omega (arith, called .before .before .if1 .left) in
     let told =
-    ranking-accepted (a .rows .now) (a .n) (a .m) (s .pre .0) (a .certificate .now) (a .rank .now) (s .pre .1) (called .ranking .result) (called .ranking .last .1 .1 .1 .1 .0) (called .ranking .ensures) room
+    ranking-accepted (a .rows .now) (a .n) (a .m) (s .pre .0) (a .certificate .now) (a .rank .now) (s .pre .1) (called .ranking .result) (called .ranking .last .1 .1 .1 .1 .1 .0) (called .ranking .ensures) room
     (not-false (called .ranking .result .holds) (c .before .if2 .left))
     in
     let sizes = called .ranking .ok .1 .1 .1 in

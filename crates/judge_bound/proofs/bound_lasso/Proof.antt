@@ -29,7 +29,7 @@ returns c =
     let s = called .before .before .before .before in
     let a = s .args in
     c .refused .ensures
-    ∙ lasso-refused (a .rows .now) (a .n) (a .m) (s .pre .0) (a .certificate .now) (a .state .now) (s .pre .3) (a .ms) (s .pre .1) (s .pre .2) (called .lasso .result) (replicate 16 (pos 0)) (called .lasso .last .1 .1 .1 .1 .1 .0) (called .lasso .ensures) (called .lasso .kept .1 .1 .1 .1 .1 .0)
+    ∙ lasso-refused (a .rows .now) (a .n) (a .m) (s .pre .0) (a .certificate .now) (a .state .now) (s .pre .3) (a .ms) (s .pre .1) (s .pre .2) (called .lasso .result) (replicate 16 (pos 0)) (called .lasso .last .1 .1 .1 .1 .1 .1 .0) (called .lasso .ensures) (called .lasso .kept .1 .1 .1 .1 .1 .1 .0)
     (not-true (called .lasso .result .holds) (c .before .if1 .taken))
 
 meets-invariant-requires : tie.Need-meets-invariant-requires
@@ -49,7 +49,7 @@ returns-2 c =
     let s = called .before .before .before .before in
     let a = s .args in
     c .refused2 .ensures
-    ∙ lasso-outside (a .rows .now) (a .n) (a .m) (s .pre .0) (a .certificate .now) (a .state .now) (s .pre .3) (a .ms) (s .pre .1) (s .pre .2) (called .lasso .result) (replicate 16 (pos 0)) (called .lasso .last .1 .1 .1 .1 .1 .0) (called .lasso .ensures) (called .lasso .kept .1 .1 .1 .1 .1 .0)
+    ∙ lasso-outside (a .rows .now) (a .n) (a .m) (s .pre .0) (a .certificate .now) (a .state .now) (s .pre .3) (a .ms) (s .pre .1) (s .pre .2) (called .lasso .result) (replicate 16 (pos 0)) (called .lasso .last .1 .1 .1 .1 .1 .1 .0) (called .lasso .ensures) (called .lasso .kept .1 .1 .1 .1 .1 .1 .0)
     (not-false (called .lasso .result .holds) (asked .before .if1 .left))
     (asked .meets-invariant .ensures .no-fails (not-true (asked .meets-invariant .result) (c .before .if2 .taken)))
 
@@ -63,7 +63,7 @@ bound-at-requires c κs =
     let a = s .args in
     let sizes = called .lasso .ok .1 .1 .1 in
     let ready =
-    lasso-ready (a .rows .now) (a .n) (a .m) (s .pre .0) (a .certificate .now) (a .state .now) (s .pre .3) (a .ms) (s .pre .1) (s .pre .2) (called .lasso .result) (replicate 16 (pos 0)) (called .lasso .last .1 .1 .1 .1 .1 .0) (called .lasso .ensures) (called .lasso .kept .1 .1 .1 .1 .1 .0)
+    lasso-ready (a .rows .now) (a .n) (a .m) (s .pre .0) (a .certificate .now) (a .state .now) (s .pre .3) (a .ms) (s .pre .1) (s .pre .2) (called .lasso .result) (replicate 16 (pos 0)) (called .lasso .last .1 .1 .1 .1 .1 .1 .0) (called .lasso .ensures) (called .lasso .kept .1 .1 .1 .1 .1 .1 .0)
     (not-false (called .lasso .result .holds) (c .before .before .before .before .before .before .if1 .left))
     in
     rw (toZ-ofZ (sfits-of (sizes .0 .1)), toZ-ofZ (sfits-of (sizes .1 .0 .1))) (ready, n-few _ _ _ (s .pre .0), s .pre .3 .long)
@@ -76,7 +76,7 @@ returns-3 c =
     let sizes = called .lasso .ok .1 .1 .1 in
     let steps = rw (toZ-ofZ (sfits-of (sizes .0 .1)), toZ-ofZ (sfits-of (sizes .1 .0 .1))) at (c .bound-at .ensures) in
     rw (toZ-ofZ (sfits-of (sizes .0 .1)), toZ-ofZ (sfits-of (sizes .1 .0 .1)), steps)
-    (lasso-bounded (a .rows .now) (a .n) (a .m) (s .pre .0) (a .certificate .now) (a .state .now) (s .pre .3) (a .ms) (s .pre .1) (s .pre .2) (called .lasso .result) (replicate 16 (pos 0)) (called .lasso .last .1 .1 .1 .1 .1 .0) (called .lasso .ensures) (called .lasso .kept .1 .1 .1 .1 .1 .0)
+    (lasso-bounded (a .rows .now) (a .n) (a .m) (s .pre .0) (a .certificate .now) (a .state .now) (s .pre .3) (a .ms) (s .pre .1) (s .pre .2) (called .lasso .result) (replicate 16 (pos 0)) (called .lasso .last .1 .1 .1 .1 .1 .1 .0) (called .lasso .ensures) (called .lasso .kept .1 .1 .1 .1 .1 .1 .0)
     (not-false (called .lasso .result .holds) (c .before .before .before .before .before .before .before .if1 .left))
     (c .before .before .before .before .before .before .meets-invariant .ensures .yes-holds (not-false (c .before .before .before .before .before .before .meets-invariant .result) (c .before .before .before .before .before .if2 .left))))
 

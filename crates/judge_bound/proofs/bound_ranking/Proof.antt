@@ -29,7 +29,7 @@ returns c =
     let s = called .before .before .before .before in
     let a = s .args in
     c .refused .ensures
-    ∙ ranking-refused (a .rows .now) (a .n) (a .m) (s .pre .0) (a .certificate .now) (a .state .now) (s .pre .2) (s .pre .1) (called .ranking .result) (replicate 16 (pos 0)) (called .ranking .last .1 .1 .1 .1 .0) (called .ranking .ensures) (called .ranking .kept .1 .1 .1 .1 .0)
+    ∙ ranking-refused (a .rows .now) (a .n) (a .m) (s .pre .0) (a .certificate .now) (a .state .now) (s .pre .2) (s .pre .1) (called .ranking .result) (replicate 16 (pos 0)) (called .ranking .last .1 .1 .1 .1 .1 .0) (called .ranking .ensures) (called .ranking .kept .1 .1 .1 .1 .1 .0)
     (not-true (called .ranking .result .holds) (c .before .if1 .taken))
 
 slice-aggregate-bound-at : tie.Need-slice-aggregate-bound-at
@@ -42,7 +42,7 @@ bound-at-requires c κs =
     let a = s .args in
     let sizes = called .ranking .ok .1 .1 .1 in
     let ready =
-    ranking-ready (a .rows .now) (a .n) (a .m) (s .pre .0) (a .certificate .now) (a .state .now) (s .pre .2) (s .pre .1) (called .ranking .result) (replicate 16 (pos 0)) (called .ranking .last .1 .1 .1 .1 .0) (called .ranking .ensures) (called .ranking .kept .1 .1 .1 .1 .0)
+    ranking-ready (a .rows .now) (a .n) (a .m) (s .pre .0) (a .certificate .now) (a .state .now) (s .pre .2) (s .pre .1) (called .ranking .result) (replicate 16 (pos 0)) (called .ranking .last .1 .1 .1 .1 .1 .0) (called .ranking .ensures) (called .ranking .kept .1 .1 .1 .1 .1 .0)
     (not-false (called .ranking .result .holds) (c .before .before .before .before .if1 .left))
     in
     rw (toZ-ofZ (sfits-of (sizes .0 .1)), toZ-ofZ (sfits-of (sizes .1 .0 .1))) (ready, n-few _ _ _ (s .pre .0), s .pre .2 .long)
@@ -55,7 +55,7 @@ returns-2 c =
     let sizes = called .ranking .ok .1 .1 .1 in
     let steps = rw (toZ-ofZ (sfits-of (sizes .0 .1)), toZ-ofZ (sfits-of (sizes .1 .0 .1))) at (c .bound-at .ensures) in
     rw (toZ-ofZ (sfits-of (sizes .0 .1)), toZ-ofZ (sfits-of (sizes .1 .0 .1)), steps)
-    (ranking-bounded (a .rows .now) (a .n) (a .m) (s .pre .0) (a .certificate .now) (a .state .now) (s .pre .2) (s .pre .1) (called .ranking .result) (replicate 16 (pos 0)) (called .ranking .last .1 .1 .1 .1 .0) (called .ranking .ensures) (called .ranking .kept .1 .1 .1 .1 .0)
+    (ranking-bounded (a .rows .now) (a .n) (a .m) (s .pre .0) (a .certificate .now) (a .state .now) (s .pre .2) (s .pre .1) (called .ranking .result) (replicate 16 (pos 0)) (called .ranking .last .1 .1 .1 .1 .1 .0) (called .ranking .ensures) (called .ranking .kept .1 .1 .1 .1 .1 .0)
     (not-false (called .ranking .result .holds) (c .before .before .before .before .before .if1 .left)))
 
 pub bound-ranking-spec : {M : Type 1} → statement M

@@ -17,17 +17,17 @@ use Rattle.judge_exclusion.proofs.exclusion.Statement.{statement}
 use Rattle.judge_exclusion.proofs.exclusion.Tie as tie
 
 abbrev Inv-loop : tie.InvT-loop
-Inv-loop rows n m certificate stride at₀ i₀ at i =
-    (i ≤ m) × (at ≡ rowAt 10 n i) × ((k : ℕ) → k < i → RowExcluded (exclusion-held certificate n) (rowFrom rows n (rowAt 10 n k)))
+Inv-loop rows start n m certificate stride at₀ i₀ at i =
+    (i ≤ m) × (at ≡ rowAt start n i) × ((k : ℕ) → k < i → RowExcluded (exclusion-held certificate n) (rowFrom rows n (rowAt start n k)))
 
 abbrev μ-loop : tie.MeasureT-loop
-μ-loop rows n m certificate stride at₀ i₀ at i = m - i
+μ-loop rows start n m certificate stride at₀ i₀ at i = m - i
 
 -- the row of this turn lies within the bytes
-inside : (c : tie.In-loop Inv-loop μ-loop) → let a = c .before .before .before .before .args in rowAt 10 (a .n) (c .before .loop .i + 1) ≤ length (a .rows .now)
+inside : (c : tie.In-loop Inv-loop μ-loop) → let a = c .before .before .before .before .args in rowAt (a .start) (a .n) (c .before .loop .i + 1) ≤ length (a .rows .now)
 inside c =
     let start = c .before .before .before .before in
-    row-inside (start .args .rows .now) 10 (start .args .n) (start .args .m) (c .before .loop .i) (start .pre .0) (c .loop-test .taken)
+    row-inside (start .args .rows .now) (start .args .start) (start .args .n) (start .args .m) (c .before .loop .i) (start .pre .0) (c .loop-test .taken)
 
 mul-stride : tie.Need-mul-stride Inv-loop μ-loop
 mul-stride c = search needs
@@ -48,7 +48,7 @@ returns c =
     answer-no
     (λ h.
     c .before .row-excluded .ensures .no-fails (not-true (c .before .row-excluded .result) (c .if1 .taken))
-    (rw (← l .loop .inv .1) at (row-holds (a .rows .now) (a .certificate .now) (a .n) (a .m) h (l .loop .i) (c .before .before .loop-test .taken))))
+    (rw (← l .loop .inv .1) at (row-holds (a .rows .now) (a .certificate .now) (a .start) (a .n) (a .m) h (l .loop .i) (c .before .before .loop-test .taken))))
 
 add-at : tie.Need-add-at Inv-loop μ-loop
 add-at c = omega (arith, inside (c .before .before))
@@ -72,7 +72,7 @@ returns-2 c =
     let l = c .before in
     let a = l .before .before .before .args in
     let end : l .loop .i ≡ a .m = omega arith in
-    answer-yes (rows-hold (a .rows .now) (a .certificate .now) (a .n) (a .m) (λ i h. l .loop .inv .2 i (omega arith)))
+    answer-yes (rows-hold (a .rows .now) (a .certificate .now) (a .start) (a .n) (a .m) (λ i h. l .loop .inv .2 i (omega arith)))
 
 pub exclusion-spec : {M : Type 1} → statement M
 exclusion-spec =

@@ -9,6 +9,10 @@ use borrow.Author.Needs.{needs}
 use Rattle.judge_lasso.proofs.keeps.Statement.{statement}
 use Rattle.judge_lasso.proofs.keeps.Tie as tie
 
+-- where the call started
+abbrev start : tie.After-u16-at → tie.Start
+start c = c .before .before .before
+
 mul-s : tie.Need-mul-s
 mul-s c = search needs
 
@@ -53,10 +57,10 @@ u16-at-requires-2 c κs = search needs
 
 carried-requires : tie.Need-carried-requires
 carried-requires c κs =
-    let start = c .before .before .before .before in
-    let a = start .args in
-    let h = start .pre .1 in (
-      start .pre .0,
+    let s = start (c .before) in
+    let a = s .args in
+    let h = s .pre .1 in (
+      s .pre .0,
       h .m-few,
       omega (arith, h .inside),
       omega (arith, h .inside),
@@ -69,7 +73,7 @@ carried-requires c κs =
 returns : tie.Need-returns
 unfolding loop-held lasso-held
 returns c =
-    let a = c .before .before .before .before .before .args in
+    let a = start (c .before .before) .args in
     let place : s-place (a .n) (a .ms) + 2 * a .n + 6 + 2 * a .ms ≡ k2-place (a .n) (a .ms) = omega arith in
     rw (c .before .before .u16-at .ensures .0, c .before .u16-at2 .ensures .0, place) at (c .carried .ensures)
 

@@ -2,14 +2,33 @@
 use Prim.Native.Nat.{_+_, _*_}
 use mathlib.Core.Path.{_≡_}
 use native.Mathlib.Omega.{arith}
+use mir.Syntax.{w64}
+use mir.Facts.{toZ-ofZ}
 use borrow.Author.Tests.{not-true, not-false}
 use Rattle.judge_conditions.specs.LoopHeld.{loop-held}
+use Rattle.whole.proofs.Size.{fits-abs}
+use Rattle.judge_sums.specs.Places.{rightAt}
+use Rattle.judge_conditions.proofs.Totals.{passed-small}
+use Rattle.theory.specs.Lassos.{Lasso}
+use Rattle.theory.specs.Loops.{Loop}
 use Rattle.judge_lasso.specs.LassoHeld.{lasso-held, s-place, Y-place}
 use Rattle.judge_longer.specs.LongerHeld.{longer-held}
 use Rattle.judge_lasso.proofs.LassoLaws.{s-small, starts-of, keeps-of, lasso-fails, lasso-ranked}
 use borrow.Author.Needs.{needs}
 use Rattle.judge_lasso.proofs.lasso.Statement.{statement}
 use Rattle.judge_lasso.proofs.lasso.Tie as tie
+
+-- ---- once start is tested: the start of the call, its loop and its lasso
+
+module _ (c : tie.After-starts) where
+  abbrev s : tie.Start
+  s = c .before .before .before
+
+  abbrev loop : Loop
+  loop = let a = s .args in loop-held (a .rows .now) (a .start) (a .n) (a .m)
+
+  abbrev held : Lasso
+  held = let a = s .args in lasso-held (a .certificate .now) (a .n) (a .m) (a .ms)
 
 starts-requires : tie.Need-starts-requires
 starts-requires c κs = search needs
@@ -20,10 +39,9 @@ fails-requires c κs = search needs
 returns : tie.Need-returns
 unfolding loop-held
 returns c =
-    let called = c .before .before in
-    let a = called .before .before .before .args in
-    lasso-fails (loop-held (a .rows .now) (a .n) (a .m)) (lasso-held (a .certificate .now) (a .n) (a .m) (a .ms)) (c .fails .result) (a .rank .now)
-    (λ h. called .starts .ensures .no-fails (not-true (called .starts .result) (c .before .if1 .taken)) (starts-of _ _ h)) (c .fails .ensures)
+    let started = c .before .before in
+    lasso-fails (loop started) (held started) (c .fails .result) (s started .args .rank .now)
+    (λ h. started .starts .ensures .no-fails (not-true (started .starts .result) (c .before .if1 .taken)) (starts-of _ _ h)) (c .fails .ensures)
 
 keeps-requires : tie.Need-keeps-requires
 keeps-requires c κs = search needs
@@ -33,10 +51,10 @@ fails-requires-2 c κs = search needs
 
 returns-2 : tie.Need-returns-2
 returns-2 c =
-    let called = c .before .before in
-    let a = called .before .before .before .before .before .args in
-    lasso-fails (loop-held (a .rows .now) (a .n) (a .m)) (lasso-held (a .certificate .now) (a .n) (a .m) (a .ms)) (c .fails2 .result) (a .rank .now)
-    (λ h. called .keeps .ensures .no-fails (not-true (called .keeps .result) (c .before .if2 .taken)) (keeps-of _ _ h)) (c .fails2 .ensures)
+    let kept = c .before .before in
+    let started = kept .before .before in
+    lasso-fails (loop started) (held started) (c .fails2 .result) (s started .args .rank .now)
+    (λ h. kept .keeps .ensures .no-fails (not-true (kept .keeps .result) (c .before .if2 .taken)) (keeps-of _ _ h)) (c .fails2 .ensures)
 
 mul-s : tie.Need-mul-s
 mul-s c = search needs
@@ -71,9 +89,20 @@ mul-y-3 c = search needs
 add-y-4 : tie.Need-add-y-4
 add-y-4 c = search needs
 
-lasso-ranking-requires : tie.Need-lasso-ranking-requires
-lasso-ranking-requires c κs =
-    let start = c .before .before .before .before .before .before .before in
+mul-i32-at : tie.Need-mul-i32-at
+mul-i32-at c = search needs
+
+add-i32-at : tie.Need-add-i32-at
+add-i32-at c = search needs
+
+i32-at-requires : tie.Need-i32-at-requires
+i32-at-requires c κs = search needs
+
+longer-ranking-requires : tie.Need-longer-ranking-requires
+longer-ranking-requires c κs =
+    let read = c .before .i32-at in
+    let kept = c .before .before .before in
+    let start = s (kept .before .before) in
     let a = start .args in
     let h = start .pre .1 in
     let small = s-small (a .certificate .now) (a .n) (a .m) (a .ms) h in (
@@ -84,6 +113,7 @@ lasso-ranking-requires c κs =
       omega (arith, small),
       omega (arith, h .inside),
       omega (arith, h .inside),
+      passed-small (read .result) 2147483648 (omega arith) (read .ensures .1),
       start .pre .2,
     )
 
@@ -91,17 +121,19 @@ same-length : tie.Need-same-length
 same-length c = search needs
 
 returns-3 : tie.Need-returns-3
-unfolding loop-held lasso-held longer-held
+unfolding loop-held lasso-held longer-held rightAt
 returns-3 c =
-    let ranked = c .before .lasso-ranking in
-    let kept = c .before .before .before .before in
+    let ranked = c .before .longer-ranking in
+    let read = c .before .before .before in
+    let kept = read .before .before in
     let started = kept .before .before in
-    let a = started .before .before .before .args in
+    let a = s started .args in
     let place : s-place (a .n) (a .ms) + 2 * a .n + 10 + 2 * a .ms + 2 * a .m ≡ Y-place (a .n) (a .m) (a .ms) = omega arith in
-    lasso-ranked (loop-held (a .rows .now) (a .n) (a .m)) (lasso-held (a .certificate .now) (a .n) (a .m) (a .ms)) (ranked .result) (a .rank .now) (ranked .last .1 .1 .1 .1 .1 .1 .0)
+    let s0-fits = toZ-ofZ {w = w64} {z = read .i32-at .result} (fits-abs {z = read .i32-at .result} (omega (arith, read .i32-at .ensures .1))) in
+    lasso-ranked (loop started) (held started) (ranked .result) (a .rank .now) (ranked .last .1 .1 .1 .1 .1 .1 .1 .1 .0)
     (started .starts .ensures .yes-holds (not-false (started .starts .result) (kept .before .if1 .left)))
-    (kept .keeps .ensures .yes-holds (not-false (kept .keeps .result) (c .before .before .before .if2 .left)))
-    (rw place at (ranked .ensures))
+    (kept .keeps .ensures .yes-holds (not-false (kept .keeps .result) (read .before .if2 .left)))
+    (rw (place, s0-fits, read .i32-at .ensures .0) at (ranked .ensures))
 
 pub lasso-spec : {M : Type 1} → statement M
 lasso-spec =
@@ -124,6 +156,9 @@ lasso-spec =
     add-y-3
     mul-y-3
     add-y-4
-    lasso-ranking-requires
+    mul-i32-at
+    add-i32-at
+    i32-at-requires
+    longer-ranking-requires
     same-length
     returns-3)

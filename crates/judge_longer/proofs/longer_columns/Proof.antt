@@ -3,6 +3,7 @@ use Prim.Native.Nat.{_+_, _*_, _≤_, _<_}
 use native.Mathlib.Omega.{arith}
 use mir.Syntax.{w64}
 use mir.Facts.{toZ-ofZ}
+use Rattle.judge_sums.specs.Running.{Modest}
 use Rattle.judge_sums.proofs.LiftLaws.{sums-modest}
 use Rattle.judge_conditions.specs.LoopHeld.{loop-held}
 use Rattle.judge_ranking.specs.RankingHeld.{ranking-held}
@@ -14,6 +15,44 @@ use Rattle.judge_ranking.proofs.RankingTotals.{zeros}
 use borrow.Author.Needs.{needs}
 use Rattle.judge_longer.proofs.longer_columns.Statement.{statement}
 use Rattle.judge_longer.proofs.longer_columns.Tie as tie
+
+-- ---- the places of this proof: the start, the rows added, the added row taken under Y and under Z, the lifts
+
+abbrev start : tie.After-add-rows → tie.Start
+start c = c .before .before .before .before .before
+
+abbrev added : tie.After-u16-at → tie.After-add-rows
+added c = c .before .before .before .before
+
+abbrev taken : tie.After-u16-at2 → tie.After-take-row
+taken c = c .before .before .before
+
+module _ (c : tie.After-struct-told2) where
+  abbrev lift : tie.After-lift-of2
+  lift = c .before .before .before .before .before
+
+  abbrev under-z : tie.After-take-row2
+  under-z = lift .before .before .before
+
+  abbrev under-y : tie.After-take-row
+  under-y = taken (under-z .before)
+
+  abbrev rows : tie.After-add-rows
+  rows = added (under-y .before)
+
+  abbrev s : tie.Start
+  s = start rows
+
+  few : s .args .m ≤ 65
+  few = omega (arith, s .pre .1)
+
+  y-modest : Modest (lift .before .lift-of .result .sum)
+  y-modest = lift-modest (s .args .m) _ (lift .before .lift-of .result .sum) few (lift .before .lift-of .ensures)
+
+  z-modest : Modest (lift .lift-of2 .result .sum)
+  z-modest = lift-modest (s .args .m) _ (lift .lift-of2 .result .sum) few (lift .lift-of2 .ensures)
+
+-- ---- the needs
 
 add-z : tie.Need-add-z
 add-z c = search needs
@@ -52,16 +91,17 @@ u16-at-requires c κs = search needs
 
 take-row-requires : tie.Need-take-row-requires
 take-row-requires c κs =
-    let rows = c .before .before .before .before in
-    let start = rows .before .before .before .before .before in
-    let a = start .args in
-    let few : a .m < 16384 = omega (arith, start .pre .1) in (
-      omega (arith, start .pre .2, rows .add-rows .kept .0),
-      λ k below. sums-modest (a .certificate .now) (a .place) (a .rows .now) 10 (a .n) (a .m) (rows .add-rows .last .0) (rows .add-rows .ensures .0) few k (omega arith),
+    let rows = added c in
+    let s = start rows in
+    let a = s .args in
+    let few : a .m < 16384 = omega (arith, s .pre .1) in
+    let ys = rows .add-rows .last .0 in (
+      omega (arith, s .pre .2, rows .add-rows .kept .0),
+      λ k below. sums-modest (a .certificate .now) (a .place) (a .rows .now) (a .start) (a .n) (a .m) ys (rows .add-rows .ensures .0) few k (omega arith),
       c .u16-at .ensures .1,
-      start .pre .4,
-      start .pre .2,
-      omega (arith, start .pre .6),
+      s .pre .4,
+      s .pre .2,
+      omega (arith, s .pre .6),
     )
 
 slice-aggregate-take-row-2 : tie.Need-slice-aggregate-take-row-2
@@ -78,16 +118,18 @@ u16-at-requires-2 c κs = search needs
 
 take-row-requires-2 : tie.Need-take-row-requires-2
 take-row-requires-2 c κs =
-    let rows = c .before .before .before .before .before .before .before .before in
-    let start = rows .before .before .before .before .before in
-    let a = start .args in
-    let few : a .m < 16384 = omega (arith, start .pre .1) in (
-      omega (arith, start .pre .2, rows .add-rows .kept .1 .0),
-      λ k below. sums-modest (a .certificate .now) (a .place + 2 * (a .m + 1)) (a .rows .now) 10 (a .n) (a .m) (rows .add-rows .last .1 .0) (rows .add-rows .ensures .1) few k (omega arith),
+    let rows = added (taken c .before) in
+    let s = start rows in
+    let a = s .args in
+    let few : a .m < 16384 = omega (arith, s .pre .1) in
+    let zs = rows .add-rows .last .1 .0 in
+    let z = a .place + 2 * (a .m + 1) in (
+      omega (arith, s .pre .2, rows .add-rows .kept .1 .0),
+      λ k below. sums-modest (a .certificate .now) z (a .rows .now) (a .start) (a .n) (a .m) zs (rows .add-rows .ensures .1) few k (omega arith),
       c .u16-at2 .ensures .1,
-      start .pre .4,
-      start .pre .2,
-      omega (arith, start .pre .6),
+      s .pre .4,
+      s .pre .2,
+      omega (arith, s .pre .6),
     )
 
 lift-of-requires : tie.Need-lift-of-requires
@@ -104,27 +146,22 @@ slice-aggregate-rank-columns-2 c = search needs
 
 rank-columns-requires : tie.Need-rank-columns-requires
 rank-columns-requires c κs =
-    let lifted = c .before .before .before .before .before .lift-of2 in
-    let lifted-y = c .before .before .before .before .before .before .lift-of in
-    let taken = c .before .before .before .before .before .before .before .before in
-    let taken-y = taken .before .before .before .before in
-    let rows = taken-y .before .before .before .before .before in
-    let start = rows .before .before .before .before .before in
-    let a = start .args in
+    let p = s c .pre in
+    let a = s c .args in
     let z = a .place + 2 * (a .m + 1) in
-    let few : a .m ≤ 65 = omega (arith, start .pre .1) in
-    let y-modest = lift-modest (a .m) _ (lifted-y .result .sum) few (lifted-y .ensures) in
-    let z-modest = lift-modest (a .m) _ (lifted .result .sum) few (lifted .ensures) in (
-      omega (arith, start .pre .2, rows .add-rows .kept .0, taken-y .take-row .kept .0),
-      omega (arith, start .pre .2, rows .add-rows .kept .1 .0, taken .take-row2 .kept .0),
-      start .pre .2,
-      taken-modest (a .rows .now) (a .certificate .now) (a .n) (a .m) (a .place) (a .s) (taken-y .before .u16-at .result) (rows .add-rows .last .0) (taken-y .take-row .last .0) (start .pre .1)
-          (rows .add-rows .ensures .0) (taken-y .take-row .ensures),
-      taken-modest (a .rows .now) (a .certificate .now) (a .n) (a .m) z (a .s) (taken .before .u16-at2 .result) (rows .add-rows .last .1 .0) (taken .take-row2 .last .0) (start .pre .1)
-          (rows .add-rows .ensures .1) (taken .take-row2 .ensures),
-      passed-modest (lifted-y .result .sum) y-modest,
-      passed-modest (lifted .result .sum) z-modest,
-      start .pre .7,
+    let sums = rows c .add-rows in
+    let y = under-y c in
+    let z-row = under-z c in (
+      omega (arith, p .2, sums .kept .0, y .take-row .kept .0),
+      omega (arith, p .2, sums .kept .1 .0, z-row .take-row2 .kept .0),
+      p .2,
+      taken-modest (a .rows .now) (a .certificate .now) (a .start) (a .n) (a .m) (a .place) (a .s) (y .before .u16-at .result) (sums .last .0) (y .take-row .last .0) (p .1)
+          (sums .ensures .0) (y .take-row .ensures),
+      taken-modest (a .rows .now) (a .certificate .now) (a .start) (a .n) (a .m) z (a .s) (z-row .before .u16-at2 .result) (sums .last .1 .0) (z-row .take-row2 .last .0) (p .1)
+          (sums .ensures .1) (z-row .take-row2 .ensures),
+      passed-modest (lift c .before .lift-of .result .sum) (y-modest c),
+      passed-modest (lift c .lift-of2 .result .sum) (z-modest c),
+      p .7,
     )
 
 same-length : tie.Need-same-length
@@ -133,29 +170,27 @@ same-length c = search needs
 returns : tie.Need-returns
 unfolding longer-held loop-held
 returns c =
-    let lifted = c .before .before .before .before .before .before .before .lift-of2 in
-    let lifted-y = c .before .before .before .before .before .before .before .before .lift-of in
-    let taken = c .before .before .before .before .before .before .before .before .before .before in
-    let taken-y = taken .before .before .before .before in
-    let rows = taken-y .before .before .before .before .before in
-    let start = rows .before .before .before .before .before in
-    let a = start .args in
-    let z = a .place + 2 * (a .m + 1) in
-    let few : a .m ≤ 65 = omega (arith, start .pre .1) in
-    let y-modest = lift-modest (a .m) _ (lifted-y .result .sum) few (lifted-y .ensures) in
-    let z-modest = lift-modest (a .m) _ (lifted .result .sum) few (lifted .ensures) in
-    let ys = taken-y .take-row .last .0 in
-    let zs = taken .take-row2 .last .0 in
-    columns-of (longer-held (a .rows .now) (a .n) (a .m) (a .certificate .now) (a .s)) (ranking-held (a .certificate .now) (a .place) (a .m + 1)) ys (lifted-y .result .sum) zs (lifted .result .sum)
-    (c .before .rank-columns .result) (a .rank .now) (c .before .rank-columns .last .1 .1 .1 .1 .1 .0)
-    (totalled-longer (a .rows .now) (a .certificate .now) (a .n) (a .m) (a .place) (a .s) (rows .add-rows .last .0) ys (lifted-y .result .sum) (rows .add-rows .last .1 .0) zs (lifted .result .sum)
-    (taken-y .before .u16-at .result) (taken .before .u16-at2 .result) few
-    (rows .add-rows .ensures .0) (taken-y .take-row .ensures) (lifted-y .ensures) (rows .add-rows .ensures .1) (taken .take-row2 .ensures) (lifted .ensures)
-    (taken-y .before .u16-at .ensures .0) (taken .before .u16-at2 .ensures .0))
+    let called = c .before .rank-columns in
+    let asked = c .before .before in
+    let a = s asked .args in
+    let sums = rows asked .add-rows in
+    let y = under-y asked in
+    let z-row = under-z asked in
+    let lift-y = lift asked .before .lift-of in
+    let lift-z = lift asked .lift-of2 in
+    let ys = y .take-row .last .0 in
+    let zs = z-row .take-row2 .last .0 in
+    λ right.
+    columns-of (longer-held (a .rows .now) (a .start) (a .n) (a .m) (a .certificate .now) (a .s) right) (ranking-held (a .certificate .now) (a .place) (a .m + 1))
+    ys (lift-y .result .sum) zs (lift-z .result .sum) (called .result) (a .rank .now) (called .last .1 .1 .1 .1 .1 .0)
+    (totalled-longer (a .rows .now) (a .certificate .now) (a .start) (a .n) (a .m) (a .place) (a .s) right (sums .last .0) ys (lift-y .result .sum) (sums .last .1 .0) zs (lift-z .result .sum)
+    (y .before .u16-at .result) (z-row .before .u16-at2 .result) (few asked)
+    (sums .ensures .0) (y .take-row .ensures) (lift-y .ensures) (sums .ensures .1) (z-row .take-row2 .ensures) (lift-z .ensures)
+    (y .before .u16-at .ensures .0) (z-row .before .u16-at2 .ensures .0))
     (rw (
-      toZ-ofZ {w = w64} {z = lifted-y .result .sum} (modest-fits y-modest),
-      toZ-ofZ {w = w64} {z = lifted .result .sum} (modest-fits z-modest),
-    ) at (c .before .rank-columns .ensures))
+      toZ-ofZ {w = w64} {z = lift-y .result .sum} (modest-fits (y-modest asked)),
+      toZ-ofZ {w = w64} {z = lift-z .result .sum} (modest-fits (z-modest asked)),
+    ) at (called .ensures))
 
 pub longer-columns-spec : {M : Type 1} → statement M
 longer-columns-spec =

@@ -55,8 +55,8 @@ rank-columns-requires c κs =
       omega (arith, start .pre .1, rows .kept .0),
       omega (arith, start .pre .1, rows .kept .1 .0),
       start .pre .1,
-      sums-modest (a .certificate .now) 6 (a .rows .now) 10 (a .n) (a .m) (rows .last .0) (rows .ensures .0) few,
-      sums-modest (a .certificate .now) (6 + 2 * a .m) (a .rows .now) 10 (a .n) (a .m) (rows .last .1 .0) (rows .ensures .1) few,
+      sums-modest (a .certificate .now) 6 (a .rows .now) (a .start) (a .n) (a .m) (rows .last .0) (rows .ensures .0) few,
+      sums-modest (a .certificate .now) (6 + 2 * a .m) (a .rows .now) (a .start) (a .n) (a .m) (rows .last .1 .0) (rows .ensures .1) few,
       passed-modest (lifted-y .result .sum) (lift-modest (a .m) _ (lifted-y .result .sum) (omega (arith, start .pre .2)) (lifted-y .ensures)),
       passed-modest (lifted .result .sum) (lift-modest (a .m) _ (lifted .result .sum) (omega (arith, start .pre .2)) (lifted .ensures)),
       start .pre .4,
@@ -76,9 +76,9 @@ returns c =
     let few : a .m ≤ 65 = omega (arith, start .pre .2) in
     let y-modest = lift-modest (a .m) _ (lifted-y .result .sum) few (lifted-y .ensures) in
     let z-modest = lift-modest (a .m) _ (lifted .result .sum) few (lifted .ensures) in
-    columns-of (loop-held (a .rows .now) (a .n) (a .m)) (ranking-held (a .certificate .now) 6 (a .m)) (rows .last .0) (lifted-y .result .sum) (rows .last .1 .0) (lifted .result .sum)
+    columns-of (loop-held (a .rows .now) (a .start) (a .n) (a .m)) (ranking-held (a .certificate .now) 6 (a .m)) (rows .last .0) (lifted-y .result .sum) (rows .last .1 .0) (lifted .result .sum)
     (c .before .rank-columns .result) (a .rank .now) (c .before .rank-columns .last .1 .1 .1 .1 .1 .0)
-    (totalled (a .rows .now) (a .certificate .now) (a .n) (a .m) 6 (rows .last .0) (lifted-y .result .sum) (rows .last .1 .0) (lifted .result .sum) few
+    (totalled (a .rows .now) (a .certificate .now) (a .start) (a .n) (a .m) 6 (rows .last .0) (lifted-y .result .sum) (rows .last .1 .0) (lifted .result .sum) few
     (rows .ensures .0) (lifted-y .ensures) (rows .ensures .1) (lifted .ensures))
     (rw (
       toZ-ofZ {w = w64} {z = lifted-y .result .sum} (modest-fits y-modest),

@@ -1,17 +1,19 @@
 -- `judge_ranking::ranking` meets its contract: the fourth condition, then the first three. Assumes nothing.
 use Prim.Native.Nat.{_+_, _*_, _≤_}
 use native.Mathlib.Omega.{arith}
-use mir.Facts.{toZ-ofZ}
+use lib.IntN.{ℤ}
 use borrow.Author.Needs.{needs}
 use borrow.Author.Tests.{not-true, not-false}
 use Rattle.whole.specs.Sums.{sum}
-use Rattle.theory.specs.Loops.{b}
+use Rattle.theory.specs.Loops.{b, Loop}
+use Rattle.theory.specs.Rankings.{Ranking}
 use Rattle.judge_ranking.specs.RankedBy.{Shows}
 use Rattle.judge_conditions.specs.LoopHeld.{loop-held}
 use Rattle.judge_ranking.specs.RankingHeld.{ranking-held}
-use Rattle.judge_ranking.proofs.RankedLaws.{fourth-fails, three-fail, all-hold}
+use Rattle.judge_ranking.proofs.RankedLaws.{shown-of, fourth-fails, three-fail, all-hold}
+use Rattle.judge_sums.specs.Running.{CanGrow}
 use Rattle.judge_sums.proofs.LiftLaws.{passed-grows}
-use Rattle.judge_conditions.proofs.Totals.{can-grow, grown-fits, right-is}
+use Rattle.judge_conditions.proofs.Totals.{can-grow, right-is}
 use Rattle.judge_ranking.proofs.ranking.Statement.{statement}
 use Rattle.judge_ranking.proofs.ranking.Tie as tie
 
@@ -27,46 +29,57 @@ add-right-of c = search needs
 right-of-requires-2 : tie.Need-right-of-requires-2
 right-of-requires-2 c κs = search needs
 
+-- ---- the two totals of right sides: the start of the call, and that they can grow
+
+module _ (c : tie.After-right-of2) where
+  abbrev s : tie.Start
+  s = c .before .before .before .before
+
+  abbrev y-total : ℤ
+  y-total = c .before .right-of .result .sum
+
+  abbrev z-total : ℤ
+  z-total = c .right-of2 .result .sum
+
+  few : s .args .m ≤ 65
+  few = omega (arith, s .pre .2)
+
+  y-grows : CanGrow y-total
+  y-grows = can-grow _ _ _ y-total few (omega arith) (c .before .right-of .ensures)
+
+  z-grows : CanGrow z-total
+  z-grows = can-grow _ _ _ z-total few (omega arith) (c .right-of2 .ensures)
+
 shown-requires : tie.Need-shown-requires
 shown-requires c κs =
-    let second = c .before .before in
-    let first = second .before in
-    let yb = first .right-of .result .sum in
-    let zb = second .right-of2 .result .sum in
-    let start = first .before .before .before in
-    let few : start .args .m ≤ 65 = omega (arith, start .pre .2) in (
-      passed-grows yb (can-grow _ _ _ yb few (omega arith) (first .right-of .ensures)),
-      passed-grows zb (can-grow _ _ _ zb few (omega arith) (second .right-of2 .ensures)),
-    )
+    let totals = c .before .before in
+    (passed-grows (y-total totals) (y-grows totals), passed-grows (z-total totals) (z-grows totals))
 
--- what is shown, of the sums of the theory
-told-of : (c : tie.After-shown)
-    → let a = c .before .before .before .before .before .before .before .args in
-    let loop = loop-held (a .rows .now) (a .n) (a .m) in
-    let ranking = ranking-held (a .certificate .now) 6 (a .m) in
-    Shows (sum (ranking .Y) b (loop .rows)) (sum (ranking .Z) b (loop .rows)) (c .shown .result)
-unfolding loop-held ranking-held
-told-of c =
-    let second = c .before .before .before in
-    let first = second .before in
-    let start = first .before .before .before in
-    let a = start .args in
-    let yb = first .right-of .result .sum in
-    let zb = second .right-of2 .result .sum in
-    let few : a .m ≤ 65 = omega (arith, start .pre .2) in
-    rw (
-      toZ-ofZ (grown-fits (can-grow (a .m) 140735340871680 _ yb few (omega arith) (first .right-of .ensures))),
-      toZ-ofZ (grown-fits (can-grow (a .m) 140735340871680 _ zb few (omega arith) (second .right-of2 .ensures))),
-      right-is (a .certificate .now) 6 (a .rows .now) 10 (a .n) (a .m) yb (first .right-of .ensures),
-      right-is (a .certificate .now) (6 + 2 * a .m) (a .rows .now) 10 (a .n) (a .m) zb (second .right-of2 .ensures),
-    ) at (c .shown .ensures)
+-- ---- once they are shown: the loop and the ranking, and what is shown of them
+
+module _ (c : tie.After-shown) where
+  abbrev totals : tie.After-right-of2
+  totals = c .before .before .before
+
+  abbrev loop : Loop
+  loop = let a = s totals .args in loop-held (a .rows .now) (a .start) (a .n) (a .m)
+
+  abbrev ranking : Ranking
+  ranking = let a = s totals .args in ranking-held (a .certificate .now) 6 (a .m)
+
+  told-of : Shows (sum (ranking .Y) b (loop .rows)) (sum (ranking .Z) b (loop .rows)) (c .shown .result)
+  unfolding loop-held ranking-held
+  told-of =
+      let a = s totals .args in
+      shown-of (y-total totals) (z-total totals) _ _ (c .shown .result) (y-grows totals) (z-grows totals)
+      (right-is (a .certificate .now) 6 (a .rows .now) (a .start) (a .n) (a .m) (y-total totals) (totals .before .right-of .ensures))
+      (right-is (a .certificate .now) (6 + 2 * a .m) (a .rows .now) (a .start) (a .n) (a .m) (z-total totals) (totals .right-of2 .ensures))
+      (c .shown .ensures)
 
 returns : tie.Need-returns
 returns c =
     let told = c .before .before in
-    let a = told .before .before .before .before .before .before .before .args in
-    fourth-fails (loop-held (a .rows .now) (a .n) (a .m)) (ranking-held (a .certificate .now) 6 (a .m)) (a .rank .now) (told .shown .result) (told-of told)
-    (not-true (told .shown .result .holds) (c .if1 .taken))
+    fourth-fails (loop told) (ranking told) (s (totals told) .args .rank .now) (told .shown .result) (told-of told) (not-true (told .shown .result .holds) (c .if1 .taken))
 
 loop-columns-requires : tie.Need-loop-columns-requires
 loop-columns-requires c κs = search needs
@@ -79,23 +92,23 @@ same-length c = search needs
 
 returns-2 : tie.Need-returns-2
 returns-2 c =
-    let called = c .before .before .before .loop-columns in
-    let told = c .before .before .before .before .before .before .before in
-    let a = told .before .before .before .before .before .before .before .args in
-    three-fail (loop-held (a .rows .now) (a .n) (a .m)) (ranking-held (a .certificate .now) 6 (a .m)) (a .rank .now) (told .shown .result) (told-of told)
-    (c .fails .result) (called .last .1 .1 .1 .1 .0) (called .result) (called .ensures) (not-true (called .result) (c .before .if2 .taken)) (c .fails .ensures)
+    let columns = c .before .before .before in
+    let called = columns .loop-columns in
+    let told = columns .before .before .before .before in
+    three-fail (loop told) (ranking told) (s (totals told) .args .rank .now) (told .shown .result) (told-of told)
+    (c .fails .result) (called .last .1 .1 .1 .1 .1 .0) (called .result) (called .ensures) (not-true (called .result) (c .before .if2 .taken)) (c .fails .ensures)
 
 same-length-2 : tie.Need-same-length-2
 same-length-2 c = search needs
 
 returns-3 : tie.Need-returns-3
 returns-3 c =
-    let called = c .before .before .loop-columns in
-    let told = c .before .before .before .before .before .before in
-    let a = told .before .before .before .before .before .before .before .args in
-    all-hold (loop-held (a .rows .now) (a .n) (a .m)) (ranking-held (a .certificate .now) 6 (a .m)) (a .rank .now) (told .shown .result) (told-of told)
-    (called .last .1 .1 .1 .1 .0) (called .result) (called .ensures) (not-false (called .result) (c .if2 .left))
-    (not-false (told .shown .result .holds) (c .before .before .before .before .if1 .left))
+    let columns = c .before .before in
+    let called = columns .loop-columns in
+    let told = columns .before .before .before .before in
+    all-hold (loop told) (ranking told) (s (totals told) .args .rank .now) (told .shown .result) (told-of told)
+    (called .last .1 .1 .1 .1 .1 .0) (called .result) (called .ensures) (not-false (called .result) (c .if2 .left))
+    (not-false (told .shown .result .holds) (columns .before .before .if1 .left))
 
 pub ranking-spec : {M : Type 1} → statement M
 ranking-spec =
