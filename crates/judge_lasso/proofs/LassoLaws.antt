@@ -1,7 +1,6 @@
 -- Lassos: where their parts stand within the bytes, and the conditions as start, kept and ranking.
-use mathlib.Core.Path.{_≡_, refl, sym, _∙_}
+use mathlib.Core.Path.{_≡_, sym, _∙_}
 use Prim.Native.Nat.{ℕ, _+_, _*_, _≤_}
-use mathlib.Core.Bool.{false≢true}
 use mathlib.Core.List.{List}
 use native.Mathlib.Nat.{mul-le-mul}
 use native.Mathlib.Omega.{arith}
@@ -13,10 +12,10 @@ use Rattle.theory.specs.Loops.{Loop}
 use Rattle.theory.specs.Rankings.{RankingHolds}
 use Rattle.theory.proofs.RankingTheorems.{no-difference}
 use Rattle.judge_lasso.specs.LassoBy.{Starts, Keeps, LassoBy}
-use Rattle.judge_ranking.specs.RankedBy.{nothing, RankedBy}
+use Rattle.judge_ranking.specs.RankedBy.{RankingBy}
+use Rattle.judge_ranking.proofs.RankedLaws.{ranked-by}
 use Rattle.judge_lasso.specs.LassoHeld.{LassoIn, s-place}
 use Rattle.judge_ranking.specs.declared.Ranked.{Ranked}
-use Rattle.judge_conditions.proofs.WhetherLaws.{answer-no, answer-by}
 
 -- ---- places
 
@@ -61,27 +60,6 @@ module _ (loop : Loop) (c : Lasso) where
         right-is = h .kept-right;
       }
 
-  -- a part that fails
-  pub lasso-fails : (r : Ranked) (lent : List ℤ) → (LassoHolds loop c → ⊥) → r ≡ nothing → LassoBy r loop c lent lent
-  lasso-fails r lent fails e =
-      rw e
-      (record {
-        decided = answer-no fails;
-        start-is = λ t. absurd (false≢true t);
-        fall-is = λ t. absurd (false≢true t);
-        otherwise = λ t. refl;
-        put = λ t. absurd (false≢true t);
-        stays = λ t. refl;
-      })
-
   -- start and kept hold: what is left is the ranking
-  pub lasso-ranked : (r : Ranked) (before after : List ℤ) → Starts (loop .variables) c → Keeps loop c → RankedBy r (longer loop c) (c .ranking) before after → LassoBy r loop c before after
-  lasso-ranked r before after s k ranked =
-      record {
-        decided = answer-by (by-parts s k) (λ h. h .ranked) (ranked .decided);
-        start-is = ranked .start-is;
-        fall-is = ranked .fall-is;
-        otherwise = ranked .otherwise;
-        put = ranked .put;
-        stays = ranked .stays;
-      }
+  pub lasso-ranked : (r : Ranked) (before after : List ℤ) → Starts (loop .variables) c → Keeps loop c → RankingBy r (longer loop c) (c .ranking) before after → LassoBy r loop c before after
+  lasso-ranked r before after s k ranked = ranked-by (by-parts s k) (λ h. h .ranked) ranked

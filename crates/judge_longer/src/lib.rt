@@ -9,7 +9,7 @@ ghost use Rattle.theory.specs.Loops.{b};
 ghost use Rattle.judge_sums.specs.Places.{RowsIn, AllModest};
 ghost use Rattle.judge_sums.specs.Running.{CanGrow, Modest};
 ghost use Rattle.judge_sums.specs.Lists.{multipliersFrom};
-ghost use Rattle.judge_ranking.specs.RankedBy.{ColumnsBy, RankedBy};
+ghost use Rattle.judge_ranking.specs.RankedBy.{ColumnsBy, RankingBy};
 ghost use Rattle.judge_ranking.specs.RankingHeld.{ranking-held};
 ghost use Rattle.judge_longer.specs.LongerHeld.{RowTaken, longer-held};
 use judge_ranking::Ranked;
@@ -116,7 +116,7 @@ pub fn longer_ranking(
 ) -> Ranked
     requires { ⌜ RowsIn (now rows) start n m × (m ≤ 64) × (n ≤ 16) × (place < 65536) × (s < 65536)
         × (place + 4 * (m + 1) ≤ length (now certificate)) × (s + 2 * n ≤ length (now certificate)) × (natAbs right ≤ 2147483648) × (n ≤ length (now rank)) ⌝ }
-    ensures { λ r. ⌜ RankedBy r (longer-held (now (rows .entry)) start n m (now (certificate .entry)) s right) (ranking-held (now (certificate .entry)) place (m + 1))
+    ensures { λ r. ⌜ RankingBy r (longer-held (now (rows .entry)) start n m (now (certificate .entry)) s right) (ranking-held (now (certificate .entry)) place (m + 1))
         (now (rank .entry)) (now (rank .exit)) ⌝ }
 {
     let yb = longer_right(rows, start, n, m, certificate, place, right);

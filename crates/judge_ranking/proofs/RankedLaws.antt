@@ -18,7 +18,7 @@ use Rattle.whole.proofs.Tables.{length-tabulate, tabulate-more, tabulate-same}
 use Rattle.theory.specs.Loops.{A, A′, b, Loop}
 use Rattle.theory.specs.Rankings.{Ranking, RankingHolds, rank, start, fall}
 use Rattle.theory.proofs.RankingTheorems.{no-difference}
-use Rattle.judge_ranking.specs.RankedBy.{ColumnAt, Totalled, RanksBy, ColumnsBy, nothing, Shows, RankedBy}
+use Rattle.judge_ranking.specs.RankedBy.{ColumnAt, Totalled, RanksBy, ColumnsBy, nothing, Shows, RankedBy, RankingBy}
 use Rattle.judge_ranking.specs.declared.Ranked.{Ranked}
 use Rattle.judge_sums.specs.Running.{CanGrow}
 use Rattle.judge_conditions.proofs.Totals.{grown-fits}
@@ -85,10 +85,35 @@ pub shown-of : (y-total z-total yb zb : ℤ) (r : Ranked) → CanGrow y-total �
     → Shows (toZ w64 (ofZ w64 y-total)) (toZ w64 (ofZ w64 z-total)) r → Shows yb zb r
 shown-of y-total z-total yb zb r y-grows z-grows y-is z-is h = rw (toZ-ofZ (grown-fits y-grows), toZ-ofZ (grown-fits z-grows), y-is, z-is) at h
 
+-- ---- conditions that fail, and others that say the same
+
+pub fails-so : {P : Type 0} (r : Ranked) (loop : Loop) (c : Ranking) (before after : List ℤ) → (P → ⊥) → r ≡ nothing → after ≡ before → RankedBy r P loop c before after
+fails-so r loop c before after fails e same =
+    rw e
+    (record {
+      decided = answer-no fails;
+      start-is = λ t. absurd (false≢true t);
+      fall-is = λ t. absurd (false≢true t);
+      otherwise = λ t. refl;
+      put = λ t. absurd (false≢true t);
+      stays = λ t. same;
+    })
+
+pub ranked-by : {P Q : Type 0} {r : Ranked} {loop : Loop} {c : Ranking} {before after : List ℤ} → (P → Q) → (Q → P) → RankedBy r P loop c before after → RankedBy r Q loop c before after
+ranked-by f g by =
+    record {
+      decided = answer-by f g (by .decided);
+      start-is = by .start-is;
+      fall-is = by .fall-is;
+      otherwise = by .otherwise;
+      put = by .put;
+      stays = by .stays;
+    }
+
 -- ---- the first three conditions and the fourth
 
 module _ (loop : Loop) (c : Ranking) (before : List ℤ) (told : Ranked) (shows : Shows (sum (c .Y) b (loop .rows)) (sum (c .Z) b (loop .rows)) told) where
-  pub fourth-fails : told .holds ≡ false → RankedBy told loop c before before
+  pub fourth-fails : told .holds ≡ false → RankingBy told loop c before before
   fourth-fails e =
       record {
         decided = rw e (answer-no (λ h. shows .fourth .no-fails e (h .fourth)));
@@ -99,19 +124,10 @@ module _ (loop : Loop) (c : Ranking) (before : List ℤ) (told : Ranked) (shows 
         stays = λ t. refl;
       }
 
-  pub three-fail : (r : Ranked) (after : List ℤ) (holds : Bool) → ColumnsBy holds loop c before after → holds ≡ false → r ≡ nothing → RankedBy r loop c before after
-  three-fail r after holds by fails e =
-      rw e
-      (record {
-        decided = answer-no (λ h. by .decided .no-fails fails (column-of loop c h));
-        start-is = λ t. absurd (false≢true t);
-        fall-is = λ t. absurd (false≢true t);
-        otherwise = λ t. refl;
-        put = λ t. absurd (false≢true t);
-        stays = λ t. by .stays fails;
-      })
+  pub three-fail : (r : Ranked) (after : List ℤ) (holds : Bool) → ColumnsBy holds loop c before after → holds ≡ false → r ≡ nothing → RankingBy r loop c before after
+  three-fail r after holds by fails e = fails-so r loop c before after (λ h. by .decided .no-fails fails (column-of loop c h)) e (by .stays fails)
 
-  pub all-hold : (after : List ℤ) (holds : Bool) → ColumnsBy holds loop c before after → holds ≡ true → told .holds ≡ true → RankedBy told loop c before after
+  pub all-hold : (after : List ℤ) (holds : Bool) → ColumnsBy holds loop c before after → holds ≡ true → told .holds ≡ true → RankingBy told loop c before after
   unfolding start fall
   all-hold after holds by three e =
       record {

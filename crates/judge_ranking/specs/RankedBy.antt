@@ -60,11 +60,16 @@ pub record Shows (y-right z-right : ℤ) (r : Ranked) : Type 0 where
   pub fall-is : r .holds ≡ true → r .fall ≡ negℤ z-right
   pub otherwise : r .holds ≡ false → r ≡ nothing
 
--- whether a ranking of a loop holds; and then start and fall, and the rank in the front of a list. Otherwise nothing is shown, and the list stays
-pub record RankedBy (r : Ranked) (loop : Loop) (c : Ranking) (before after : List ℤ) : Type 0 where
-  pub decided : Whether (r .holds) (RankingHolds loop c)
+-- whether some conditions hold; and then start and fall of a ranking of a loop, and the rank in the front of a list. Otherwise nothing is shown, and the list
+-- stays
+pub record RankedBy (r : Ranked) (Conditions : Type 0) (loop : Loop) (c : Ranking) (before after : List ℤ) : Type 0 where
+  pub decided : Whether (r .holds) Conditions
   pub start-is : r .holds ≡ true → r .start ≡ start loop c
   pub fall-is : r .holds ≡ true → r .fall ≡ fall loop c
   pub otherwise : r .holds ≡ false → r ≡ nothing
   pub put : r .holds ≡ true → after ≡ rank loop c ++ drop (loop .variables) before
   pub stays : r .holds ≡ false → after ≡ before
+
+-- the same of the four conditions themselves
+abbrev pub RankingBy : Ranked → Loop → Ranking → List ℤ → List ℤ → Type 0
+RankingBy r loop c before after = RankedBy r (RankingHolds loop c) loop c before after

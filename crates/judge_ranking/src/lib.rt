@@ -10,7 +10,7 @@ ghost use Rattle.judge_sums.specs.Places.{RowsIn, MultipliersIn, AllModest};
 ghost use Rattle.judge_sums.specs.Running.{CanGrow, Modest};
 ghost use Rattle.judge_conditions.specs.Whether.{Whether};
 ghost use Rattle.judge_conditions.specs.LoopHeld.{loop-held};
-ghost use Rattle.judge_ranking.specs.RankedBy.{ColumnHolds, ColumnIn, nextIn, RanksBy, ColumnsBy, nothing, Shows, RankedBy};
+ghost use Rattle.judge_ranking.specs.RankedBy.{ColumnHolds, ColumnIn, nextIn, RanksBy, ColumnsBy, nothing, Shows, RankingBy};
 ghost use Rattle.judge_ranking.specs.RankingHeld.{ranking-held};
 
 // A ranking's answer: whether its conditions hold, and then start and fall; both are 0 otherwise.
@@ -157,7 +157,7 @@ pub fn ranking(
     rank: &mut [i64],
 ) -> Ranked
     requires { ⌜ RowsIn (now rows) start n m × (n ≤ 16) × (m ≤ 64) × MultipliersIn (now certificate) (6 + 2 * m) m × (n ≤ length (now rank)) ⌝ }
-    ensures { λ r. ⌜ RankedBy r (loop-held (now (rows .entry)) start n m) (ranking-held (now (certificate .entry)) 6 m) (now (rank .entry)) (now (rank .exit)) ⌝ }
+    ensures { λ r. ⌜ RankingBy r (loop-held (now (rows .entry)) start n m) (ranking-held (now (certificate .entry)) 6 m) (now (rank .entry)) (now (rank .exit)) ⌝ }
 {
     let yb = judge_sums::right_of(rows, start, n, certificate, 6, m);
     let zb = judge_sums::right_of(rows, start, n, certificate, 6 + 2 * m, m);

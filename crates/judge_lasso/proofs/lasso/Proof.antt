@@ -1,6 +1,6 @@
 -- `judge_lasso::lasso` meets its contract: start, kept and the ranking are its conditions. Assumes nothing.
 use Prim.Native.Nat.{_+_, _*_}
-use mathlib.Core.Path.{_≡_}
+use mathlib.Core.Path.{_≡_, refl}
 use native.Mathlib.Omega.{arith}
 use mir.Syntax.{w64}
 use mir.Facts.{toZ-ofZ}
@@ -9,11 +9,12 @@ use Rattle.judge_conditions.specs.LoopHeld.{loop-held}
 use Rattle.whole.proofs.Size.{fits-abs}
 use Rattle.judge_sums.specs.Places.{rightAt}
 use Rattle.judge_conditions.proofs.Totals.{passed-small}
-use Rattle.theory.specs.Lassos.{Lasso}
+use Rattle.theory.specs.Lassos.{Lasso, longer}
 use Rattle.theory.specs.Loops.{Loop}
+use Rattle.judge_ranking.proofs.RankedLaws.{fails-so}
 use Rattle.judge_lasso.specs.LassoHeld.{lasso-held, s-place, Y-place}
 use Rattle.judge_longer.specs.LongerHeld.{longer-held}
-use Rattle.judge_lasso.proofs.LassoLaws.{s-small, starts-of, keeps-of, lasso-fails, lasso-ranked}
+use Rattle.judge_lasso.proofs.LassoLaws.{s-small, starts-of, keeps-of, lasso-ranked}
 use borrow.Author.Needs.{needs}
 use Rattle.judge_lasso.proofs.lasso.Statement.{statement}
 use Rattle.judge_lasso.proofs.lasso.Tie as tie
@@ -40,8 +41,8 @@ returns : tie.Need-returns
 unfolding loop-held
 returns c =
     let started = c .before .before in
-    lasso-fails (loop started) (held started) (c .fails .result) (s started .args .rank .now)
-    (λ h. started .starts .ensures .no-fails (not-true (started .starts .result) (c .before .if1 .taken)) (starts-of _ _ h)) (c .fails .ensures)
+    fails-so (c .fails .result) (longer (loop started) (held started)) (held started .ranking) _ (s started .args .rank .now)
+    (λ h. started .starts .ensures .no-fails (not-true (started .starts .result) (c .before .if1 .taken)) (starts-of (loop started) (held started) h)) (c .fails .ensures) refl
 
 keeps-requires : tie.Need-keeps-requires
 keeps-requires c κs = search needs
@@ -53,8 +54,8 @@ returns-2 : tie.Need-returns-2
 returns-2 c =
     let kept = c .before .before in
     let started = kept .before .before in
-    lasso-fails (loop started) (held started) (c .fails2 .result) (s started .args .rank .now)
-    (λ h. kept .keeps .ensures .no-fails (not-true (kept .keeps .result) (c .before .if2 .taken)) (keeps-of _ _ h)) (c .fails2 .ensures)
+    fails-so (c .fails2 .result) (longer (loop started) (held started)) (held started .ranking) _ (s started .args .rank .now)
+    (λ h. kept .keeps .ensures .no-fails (not-true (kept .keeps .result) (c .before .if2 .taken)) (keeps-of (loop started) (held started) h)) (c .fails2 .ensures) refl
 
 mul-s : tie.Need-mul-s
 mul-s c = search needs

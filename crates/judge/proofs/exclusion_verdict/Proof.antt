@@ -1,13 +1,13 @@
--- `judge::judge_exclusion` meets its contract: each return is one way through judging. Assumes nothing.
+-- `judge::exclusion_verdict` meets its contract: each return is one way through judging. Assumes nothing.
 use mathlib.Core.Path.{_∙_}
 use native.Mathlib.Omega.{arith}
 use borrow.Author.Tests.{not-true, not-false}
 use Rattle.record.specs.Layouts.{is-certificate}
-use Rattle.judge.proofs.ByKind.{exclusion-refused, exclusion-accepted}
+use Rattle.judge.proofs.JudgedKinds.{exclusion-refused, exclusion-accepted}
 use Rattle.judge.proofs.Sizes.{n-few, rows-in, exclusion-long}
 use borrow.Author.Needs.{needs}
-use Rattle.judge.proofs.judge_exclusion.Statement.{statement}
-use Rattle.judge.proofs.judge_exclusion.Tie as tie
+use Rattle.judge.proofs.exclusion_verdict.Statement.{statement}
+use Rattle.judge.proofs.exclusion_verdict.Tie as tie
 
 exclusion-requires : tie.Need-exclusion-requires
 exclusion-requires c κs =
@@ -25,7 +25,7 @@ returns c =
     let a = s .args in
     λ lent.
     let told =
-    exclusion-refused (a .rows .now) (a .n) (a .m) (s .pre .0) (a .certificate .now) lent (s .pre .1) (called .exclusion .result) (called .exclusion .ensures)
+    exclusion-refused (a .loopbytes .now) (a .n) (a .m) (s .pre .0) (a .certificate .now) lent (s .pre .1) (called .exclusion .result) (called .exclusion .ensures)
     (not-true (called .exclusion .result) (c .before .if1 .taken))
     in
     (c .refused .ensures ∙ told .0, told .1)
@@ -38,20 +38,32 @@ u16-at-requires c κs =
 grade-requires : tie.Need-grade-requires
 grade-requires c κs = search needs
 
+accepted-requires : tie.Need-accepted-requires
+accepted-requires c κs = search needs
+
 returns-2 : tie.Need-returns-2
 returns-2 c =
-    let read = c .before .u16-at in
-    let called = c .before .before .before in
+    let graded = c .before in
+    let read = graded .before .u16-at in
+    let passed = graded .before .before in
+    let called = passed .before in
     let s = called .before .before .before in
     let a = s .args in
     λ lent.
     let told =
-    exclusion-accepted (a .rows .now) (a .n) (a .m) (s .pre .0) (a .certificate .now) lent (s .pre .1) (called .exclusion .result) (called .exclusion .ensures)
-    (not-false (called .exclusion .result) (c .before .before .if1 .left))
+    exclusion-accepted (a .loopbytes .now) (a .n) (a .m) (s .pre .0) (a .certificate .now) lent (s .pre .1) (called .exclusion .result) (called .exclusion .ensures)
+    (not-false (called .exclusion .result) (passed .if1 .left))
     in
-    (rw (c .grade .ensures, read .ensures .0) (told .0), told .1)
+    (c .accepted .ensures ∙ rw (graded .grade .ensures, read .ensures .0) (told .0), told .1)
 
-pub judge-exclusion-spec : {M : Type 1} → statement M
-judge-exclusion-spec =
+pub exclusion-verdict-spec : {M : Type 1} → statement M
+exclusion-verdict-spec =
     tie.close
-    (tie.spec exclusion-requires refused-requires returns u16-at-requires grade-requires returns-2)
+    (tie.spec
+    exclusion-requires
+    refused-requires
+    returns
+    u16-at-requires
+    grade-requires
+    accepted-requires
+    returns-2)
