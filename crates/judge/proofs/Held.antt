@@ -19,7 +19,11 @@ use Rattle.record.specs.Layouts.{loop, ranking, exclusion, lasso, is-loop, vari
 use Rattle.judge_sums.specs.Lists.{multipliersFrom, entriesFrom, rightsFrom, rowFrom, rowsFrom}
 use Rattle.judge_sums.specs.Places.{entryAt, rightAt, multiplierAt, rowAt}
 use Rattle.theory.specs.Loops.{A, over}
-use Rattle.judge_conditions.specs.Held.{loop-held, ranking-held, exclusion-held, lasso-held, s-place, s0-place, T-place, k2-place, H-place, h0-place, Y-place}
+use Rattle.judge_conditions.specs.LoopHeld.{loop-held}
+use Rattle.judge_ranking.specs.RankingHeld.{ranking-held}
+use Rattle.judge_exclusion.specs.ExclusionHeld.{exclusion-held}
+use Rattle.judge_lasso.specs.LassoHeld.{lasso-held, s-place, s0-place, T-place, k2-place, H-place, h0-place, Y-place}
+use Rattle.judge.specs.Told.{first-row}
 use Rattle.verdict.specs.Contents.{rows-from, ranking-from, exclusion-from, lasso-from, loop-in, ranking-in, exclusion-in, lasso-in}
 
 -- the number of a field at a place
@@ -131,9 +135,9 @@ module _ (r : Reader) where
   abbrev m : ℕ
   m = counts-read r .m
 
-  pub loop-is : kind r ≡ loop → loop-in r ≡ loop-held (r .bytes) n m
+  pub loop-is : kind r ≡ loop → loop-in r ≡ loop-held (r .bytes) first-row n m
   unfolding loop-in loop-held list list-start fields ahead listed layout counts is-loop widths width variable-count row-count
-  loop-is e = ap (over n) (rw (e, ← append-nil (rowsOf n m)) (rows-held n m [] (r .bytes) 10 .0))
+  loop-is e = ap (over n) (rw (e, ← append-nil (rowsOf n m)) (rows-held n m [] (r .bytes) first-row .0))
 
   pub ranking-is : kind r ≡ ranking → ranking-in r ≡ ranking-held (r .bytes) 6 m
   unfolding ranking-in ranking-from ranking-held multipliersFrom list list-start fields ahead listed layout counts is-loop widths width multiplier number littleAt multiplierAt

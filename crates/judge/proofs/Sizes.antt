@@ -10,40 +10,40 @@ use Rattle.record.specs.Readers.{Reader, kind, counts-read, stated-length}
 use Rattle.record.proofs.KindLaws.{loop-only}
 use Rattle.record.proofs.SoundRecords.{Sound, sound-says, arguments-read, counts-small}
 use Rattle.judge_sums.specs.Places.{RowsIn, MultipliersIn}
-use Rattle.judge_conditions.specs.Held.{LassoIn}
+use Rattle.judge_lasso.specs.LassoHeld.{LassoIn}
 use Rattle.verdict.specs.Pairs.{loop-record, certificate-record}
-use Rattle.judge.specs.Told.{LoopSound, CertificateSound}
+use Rattle.judge.specs.Told.{first-row, LoopSound, CertificateSound}
 
 -- ---- the loop
 
-module _ (rows : List ℕ) (n m : ℕ) (l : LoopSound rows n m) where
-  loop-says : Sound (loop-record rows)
-  loop-says = sound-says (loop-record rows) (l .told)
+module _ (loopbytes : List ℕ) (n m : ℕ) (l : LoopSound loopbytes n m) where
+  loop-says : Sound (loop-record loopbytes)
+  loop-says = sound-says (loop-record loopbytes) (l .told)
 
-  pub loop-kind : kind (loop-record rows) ≡ loop
+  pub loop-kind : kind (loop-record loopbytes) ≡ loop
   unfolding loop-record
-  loop-kind = loop-only (kind (loop-record rows)) (loop-says .wanted)
+  loop-kind = loop-only (kind (loop-record loopbytes)) (loop-says .wanted)
 
   pub n-few : n ≤ 16
-  n-few = omega (arith, l .n-is, counts-small (loop-record rows) loop-says .0)
+  n-few = omega (arith, l .n-is, counts-small (loop-record loopbytes) loop-says .0)
 
   pub m-few : m ≤ 64
-  m-few = omega (arith, l .m-is, counts-small (loop-record rows) loop-says .1)
+  m-few = omega (arith, l .m-is, counts-small (loop-record loopbytes) loop-says .1)
 
-  loop-long : length rows ≡ 10 + m * (4 * n + 4)
+  loop-long : length loopbytes ≡ 10 + m * (4 * n + 4)
   unfolding loop-record lengthOf
   loop-long =
-      let formula : stated-length (loop-record rows) ≡ 6 + m * (4 * n + 4) = rw (loop-kind, ← l .n-is, ← l .m-is) at (loop-says .formula) in
+      let formula : stated-length (loop-record loopbytes) ≡ 6 + m * (4 * n + 4) = rw (loop-kind, ← l .n-is, ← l .m-is) at (loop-says .formula) in
       omega (arith, loop-says .whole, formula)
 
-  pub rows-in : RowsIn rows 10 n m
+  pub rows-in : RowsIn loopbytes first-row n m
   rows-in = record { inside = omega (arith, loop-long); few = omega (arith, m-few); narrow = omega (arith, n-few) }
 
   -- ---- the certificate
 
-  module _ (wants : Kind → Bool) (certificate : List ℕ) (k : Kind) (c : CertificateSound wants rows certificate k) (no-loop : is-loop k ≡ false) where
+  module _ (wants : Kind → Bool) (certificate : List ℕ) (k : Kind) (c : CertificateSound wants loopbytes certificate k) (no-loop : is-loop k ≡ false) where
     abbrev record-of : Reader
-    record-of = certificate-record wants (loop-record rows) certificate
+    record-of = certificate-record wants (loop-record loopbytes) certificate
 
     certificate-says : Sound record-of
     certificate-says = sound-says record-of (c .told)
@@ -65,27 +65,27 @@ module _ (rows : List ℕ) (n m : ℕ) (l : LoopSound rows n m) where
         let formula : stated-length record-of ≡ lengthOf k (counts-read record-of) = rw (c .kind-is) at (certificate-says .formula) in
         omega (arith, certificate-says .whole, formula)
 
-pub ranking-long : (rows : List ℕ) (n m : ℕ) (l : LoopSound rows n m) (wants : Kind → Bool) (certificate : List ℕ) → CertificateSound wants rows certificate ranking → MultipliersIn certificate (6 + 2 * m) m
+pub ranking-long : (loopbytes : List ℕ) (n m : ℕ) (l : LoopSound loopbytes n m) (wants : Kind → Bool) (certificate : List ℕ) → CertificateSound wants loopbytes certificate ranking → MultipliersIn certificate (6 + 2 * m) m
 unfolding is-loop lengthOf
-ranking-long rows n m l wants certificate c =
-    let counts = counts-are rows n m l wants certificate ranking c refl in
-    omega (arith, rw (counts .1) at (certificate-long rows n m l wants certificate ranking c refl))
+ranking-long loopbytes n m l wants certificate c =
+    let counts = counts-are loopbytes n m l wants certificate ranking c refl in
+    omega (arith, rw (counts .1) at (certificate-long loopbytes n m l wants certificate ranking c refl))
 
-pub exclusion-long : (rows : List ℕ) (n m : ℕ) (l : LoopSound rows n m) (wants : Kind → Bool) (certificate : List ℕ) → CertificateSound wants rows certificate exclusion → 8 + 12 * n ≤ length certificate
+pub exclusion-long : (loopbytes : List ℕ) (n m : ℕ) (l : LoopSound loopbytes n m) (wants : Kind → Bool) (certificate : List ℕ) → CertificateSound wants loopbytes certificate exclusion → 8 + 12 * n ≤ length certificate
 unfolding is-loop lengthOf
-exclusion-long rows n m l wants certificate c =
-    let counts = counts-are rows n m l wants certificate exclusion c refl in
-    omega (arith, rw (counts .0) at (certificate-long rows n m l wants certificate exclusion c refl))
+exclusion-long loopbytes n m l wants certificate c =
+    let counts = counts-are loopbytes n m l wants certificate exclusion c refl in
+    omega (arith, rw (counts .0) at (certificate-long loopbytes n m l wants certificate exclusion c refl))
 
-pub lasso-long : (rows : List ℕ) (n m ms : ℕ) (l : LoopSound rows n m) (wants : Kind → Bool) (certificate : List ℕ) → CertificateSound wants rows certificate lasso
-    → ms ≡ counts-read (certificate-record wants (loop-record rows) certificate) .ms → LassoIn certificate n m ms
+pub lasso-long : (loopbytes : List ℕ) (n m ms : ℕ) (l : LoopSound loopbytes n m) (wants : Kind → Bool) (certificate : List ℕ) → CertificateSound wants loopbytes certificate lasso
+    → ms ≡ counts-read (certificate-record wants (loop-record loopbytes) certificate) .ms → LassoIn certificate n m ms
 unfolding is-loop lengthOf
-lasso-long rows n m ms l wants certificate c ms-is =
-    let counts = counts-are rows n m l wants certificate lasso c refl in
-    let long = rw (counts .0, counts .1, ← ms-is) at (certificate-long rows n m l wants certificate lasso c refl) in
+lasso-long loopbytes n m ms l wants certificate c ms-is =
+    let counts = counts-are loopbytes n m l wants certificate lasso c refl in
+    let long = rw (counts .0, counts .1, ← ms-is) at (certificate-long loopbytes n m l wants certificate lasso c refl) in
     record {
-      n-few = n-few rows n m l;
-      m-few = m-few rows n m l;
-      ms-few = omega (arith, ms-is, ms-few rows n m l wants certificate lasso c refl);
+      n-few = n-few loopbytes n m l;
+      m-few = m-few loopbytes n m l;
+      ms-few = omega (arith, ms-is, ms-few loopbytes n m l wants certificate lasso c refl);
       inside = omega (arith, long);
     }

@@ -11,9 +11,8 @@ use Rattle.refusal.specs.Tests.{Told, done, refused, first}
 use Rattle.refusal.proofs.TestLaws.{failed}
 use Rattle.verdict.specs.Judging.{Judging, rank-room, judging, judges, ranks, rank-after}
 use Rattle.verdict.specs.Pairs.{Pair, kind-of, variables-of, folded, conditions}
-use Rattle.verdict.specs.Stages.{refusal, said, verdict-of}
+use Rattle.verdict.specs.Stages.{refusal, said, refusal-of, verdict-of}
 use Rattle.verdict.proofs.StageLaws.{stage-done, stage-refused}
-use Rattle.judge.specs.Told.{refusal-of}
 
 -- a refusal that is said: its verdict, and the list as it was
 pub refused-so : (j : Judging) (lent : List ℤ) (about number place : ℕ) → said judging j ≡ refusal about number place → (refusal-of about number place ≡ judges j) × (lent ≡ rank-after j lent)

@@ -1,16 +1,23 @@
--- What the judge's functions are told of the records: that they are sound, with the loop's counts and the certificate's kind.
+-- What the judge's functions are told of the records: that they are sound, with the loop's counts and the certificate's kind; and what they tell of them.
 use Prim.Native.Nat.{ℕ}
-use mathlib.Core.Bool.{Bool}
+use mathlib.Core.Bool.{Bool, true}
 use mathlib.Core.Path.{_≡_}
 use mathlib.Core.List.{List}
-use Rattle.record.specs.Layouts.{Kind}
+use lib.IntN.{ℤ}
+use Rattle.record.specs.Layouts.{Kind, loop, ranking, exclusion, lasso, other, kindOf, has-rank}
 use Rattle.record.specs.Readers.{kind, counts-read, sound}
 use Rattle.refusal.specs.Tests.{done, first}
-use lib.IntN.{ℤ}
 use Rattle.verdict.specs.Judging.{judges, rank-after, judge-of}
-use Rattle.verdict.specs.Pairs.{loop-record, certificate-record}
-use Rattle.verdict.specs.declared.Outcome.the-variants.{Nothing}
+use Rattle.verdict.specs.Pairs.{loop-record, certificate-record, Pair, conditions, ranked-loop, ranking-of}
+use Rattle.verdict.specs.declared.Outcome.{Outcome}
+use Rattle.verdict.specs.declared.Outcome.the-variants.{Nothing, Ranking, Lasso}
 use Rattle.verdict.specs.declared.Verdict.{Verdict}
+use Rattle.judge_ranking.specs.RankedBy.{RankedBy}
+use Rattle.judge_ranking.specs.declared.Ranked.{Ranked}
+
+-- where the first row of a loop record starts
+abbrev pub first-row : ℕ
+first-row = 10
 
 -- a sound loop record over n variables with m rows
 pub record LoopSound (bytes : List ℕ) (n m : ℕ) : Type 0 where
@@ -19,14 +26,34 @@ pub record LoopSound (bytes : List ℕ) (n m : ℕ) : Type 0 where
   pub m-is : m ≡ counts-read (loop-record bytes) .m
 
 -- a sound certificate record for it, of a kind among those that are wanted
-pub record CertificateSound (wants : Kind → Bool) (rows bytes : List ℕ) (k : Kind) : Type 0 where
-  pub told : first sound (certificate-record wants (loop-record rows) bytes) ≡ done
-  pub kind-is : kind (certificate-record wants (loop-record rows) bytes) ≡ k
+pub record CertificateSound (wants : Kind → Bool) (loopbytes bytes : List ℕ) (k : Kind) : Type 0 where
+  pub told : first sound (certificate-record wants (loop-record loopbytes) bytes) ≡ done
+  pub kind-is : kind (certificate-record wants (loop-record loopbytes) bytes) ≡ k
 
--- a refusal: the record it speaks of, number and place
-abbrev pub refusal-of : ℕ → ℕ → ℕ → Verdict
-refusal-of about number place = record { number = number; place = place; about = about; outcome = Nothing }
+-- one that has a rank, with its kind's number and its count of stem rows
+pub record RankSound (wants : Kind → Bool) (loopbytes bytes : List ℕ) (number ms : ℕ) : Type 0 where
+  pub as-kind : CertificateSound wants loopbytes bytes (kindOf number)
+  pub ms-is : ms ≡ counts-read (certificate-record wants (loop-record loopbytes) bytes) .ms
+  pub ranks : has-rank (kindOf number) ≡ true
+
+-- the same, whichever kinds were wanted
+pub record HasRank (loopbytes bytes : List ℕ) (number ms : ℕ) : Type 0 where
+  pub wants : Kind → Bool
+  pub rank-sound : RankSound wants loopbytes bytes number ms
+
+-- whether its conditions hold; and then start, fall and rank, which are those of kind 2, or within kind 4 over the loop with the added row
+abbrev pub RankedOf : Ranked → Pair → List ℤ → List ℤ → Type 0
+RankedOf r p before after = RankedBy r (conditions p ≡ done) (ranked-loop p) (ranking-of p) before after
+
+-- its outcome
+unfoldable pub rank-outcome : Kind → ℤ → ℤ → Outcome
+rank-outcome loop start fall = Nothing
+rank-outcome ranking start fall = Ranking start fall
+rank-outcome exclusion start fall = Nothing
+rank-outcome lasso start fall = Lasso start fall
+rank-outcome other start fall = Nothing
 
 -- a verdict and the rank list afterwards are those of judging
 abbrev pub Judged : List ℕ → List ℕ → List ℤ → Verdict → List ℤ → Type 0
-Judged rows certificate lent verdict after = (verdict ≡ judges (judge-of rows certificate lent)) × (after ≡ rank-after (judge-of rows certificate lent) lent)
+Judged loopbytes certificate lent verdict after =
+    (verdict ≡ judges (judge-of loopbytes certificate lent)) × (after ≡ rank-after (judge-of loopbytes certificate lent) lent)

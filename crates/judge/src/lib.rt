@@ -1,19 +1,39 @@
-// Judge and bound: whether a certificate's bytes prove what they claim of a loop's bytes. Every input has an answer; a refusal changes nothing that was lent.
+// Judge: whether a certificate's bytes prove what they claim of a loop's bytes. Every input has an answer; a refusal changes nothing that was lent.
 ghost use mathlib.Core.Path.{_≡_};
-ghost use Rattle.record.specs.Layouts.{ranking, exclusion, lasso};
-ghost use Rattle.verdict.specs.Outcomes.{grade-of};
-ghost use Rattle.verdict.specs.Judging.{judges, rank-after, judge-of, certificates-judged};
+ghost use Prim.Native.Nat.{_≤_};
 ghost use lib.IntN.{ℤ};
+ghost use lib.ListN.{length};
 ghost use mathlib.Core.List.{List};
-ghost use Rattle.record.specs.Readers.{counts-read};
-ghost use Rattle.verdict.specs.Pairs.{loop-record, certificate-record};
-ghost use Rattle.judge.specs.Told.{LoopSound, CertificateSound, refusal-of, Judged};
+ghost use mathlib.Core.Bool.{Bool};
+ghost use Rattle.record.specs.Layouts.{Kind, exclusion, kindOf};
+ghost use Rattle.verdict.specs.Judging.{judges, rank-after, judge-of, certificates-judged};
+ghost use Rattle.verdict.specs.Outcomes.{grade-of};
+ghost use Rattle.verdict.specs.Pairs.{pair-of};
+ghost use Rattle.verdict.specs.Stages.{shows, refusal-of};
+ghost use Rattle.judge.specs.Told.{LoopSound, CertificateSound, RankSound, HasRank, RankedOf, rank-outcome, Judged};
+use judge_ranking::Ranked;
 use record::Wanted;
 use verdict::Grade;
 use verdict::Outcome;
 use verdict::Verdict;
 
-fn refused(about: usize, number: usize, place: usize) -> Verdict
+// Where the first row of a loop record starts.
+const FIRST_ROW: usize = 10;
+
+// What is accepted, with what it shows.
+pub fn accepted(outcome: Outcome) -> Verdict
+    ensures { λ r. ⌜ r ≡ shows outcome ⌝ }
+{
+    Verdict {
+        number: 0,
+        place: 0,
+        about: 0,
+        outcome: outcome,
+    }
+}
+
+// A refusal: the record that it speaks of, its number and place.
+pub fn refused(about: usize, number: usize, place: usize) -> Verdict
     ensures { λ r. ⌜ r ≡ refusal-of about number place ⌝ }
 {
     Verdict {
@@ -24,45 +44,78 @@ fn refused(about: usize, number: usize, place: usize) -> Verdict
     }
 }
 
-// Kind 2, of sound records.
-fn judge_ranking(rows: &[u8], n: usize, m: usize, certificate: &[u8], rank: &mut [i64]) -> Verdict
-    requires { ⌜ LoopSound (now rows) n m × CertificateSound certificates-judged (now rows) (now certificate) ranking ⌝ }
-    ensures { λ r. ⌜ Judged (now (rows .entry)) (now (certificate .entry)) (now (rank .entry)) r (now (rank .exit)) ⌝ }
+// Kinds 2 and 4, of sound records: whether the conditions hold, and what is then shown. The rank is put into the list where
+// they hold.
+pub fn rank_conditions(
+    loopbytes: &[u8],
+    n: usize,
+    m: usize,
+    certificate: &[u8],
+    kind: usize,
+    ms: usize,
+    rank: &mut [i64],
+) -> Ranked
+    requires { ⌜ LoopSound (now loopbytes) n m × HasRank (now loopbytes) (now certificate) kind ms × (n ≤ length (now rank)) ⌝ }
+    ensures { λ r. ⌜ ((wants : Kind → Bool) → RankSound wants (now (loopbytes .entry)) (now (certificate .entry)) kind ms
+        → RankedOf r (pair-of wants (now (loopbytes .entry)) (now (certificate .entry))) (now (rank .entry)) (now (rank .exit))) ⌝ }
+{
+    match kind {
+        2 => judge_ranking::ranking(loopbytes, FIRST_ROW, n, m, certificate, rank),
+        4 => judge_lasso::lasso(loopbytes, FIRST_ROW, n, m, certificate, ms, rank),
+        _ => judge_ranking::fails(),
+    }
+}
+
+// Their outcome.
+pub fn rank_outcome(kind: usize, start: i64, fall: i64) -> Outcome
+    ensures { λ r. ⌜ r ≡ rank-outcome (kindOf kind) start fall ⌝ }
+{
+    match kind {
+        2 => Outcome::Ranking {
+            start: start,
+            fall: fall,
+        },
+        4 => Outcome::Lasso {
+            start: start,
+            fall: fall,
+        },
+        _ => Outcome::Nothing,
+    }
+}
+
+// Kinds 2 and 4, of sound records.
+fn ranked_verdict(
+    loopbytes: &[u8],
+    n: usize,
+    m: usize,
+    certificate: &[u8],
+    kind: usize,
+    ms: usize,
+    rank: &mut [i64],
+) -> Verdict
+    requires { ⌜ LoopSound (now loopbytes) n m × RankSound certificates-judged (now loopbytes) (now certificate) kind ms ⌝ }
+    ensures { λ r. ⌜ Judged (now (loopbytes .entry)) (now (certificate .entry)) (now (rank .entry)) r (now (rank .exit)) ⌝ }
 {
     if rank.len() < n {
         return refused(0, 7, n);
     }
-    let shown = judge_conditions::ranking(rows, n, m, certificate, rank);
+    let shown = rank_conditions(loopbytes, n, m, certificate, kind, ms, rank);
     if !shown.holds {
         return refused(2, 8, 0);
     }
-    Verdict {
-        number: 0,
-        place: 0,
-        about: 0,
-        outcome: Outcome::Ranking {
-            start: shown.start,
-            fall: shown.fall,
-        },
-    }
+    accepted(rank_outcome(kind, shown.start, shown.fall))
 }
 
 // Kind 3, of sound records. It has no rank, so the answer is the same for every list.
-fn judge_exclusion(rows: &[u8], n: usize, m: usize, certificate: &[u8]) -> Verdict
-    requires { ⌜ LoopSound (now rows) n m × CertificateSound certificates-judged (now rows) (now certificate) exclusion ⌝ }
-    ensures { λ r. ⌜ ((lent : List ℤ) → Judged (now (rows .entry)) (now (certificate .entry)) lent r lent) ⌝ }
+fn exclusion_verdict(loopbytes: &[u8], n: usize, m: usize, certificate: &[u8]) -> Verdict
+    requires { ⌜ LoopSound (now loopbytes) n m × CertificateSound certificates-judged (now loopbytes) (now certificate) exclusion ⌝ }
+    ensures { λ r. ⌜ ((lent : List ℤ) → Judged (now (loopbytes .entry)) (now (certificate .entry)) lent r lent) ⌝ }
 {
-    if !judge_conditions::exclusion(rows, n, m, certificate) {
+    if !judge_exclusion::exclusion(loopbytes, FIRST_ROW, n, m, certificate) {
         return refused(2, 8, 0);
     }
-    Verdict {
-        number: 0,
-        place: 0,
-        about: 0,
-        outcome: Outcome::Exclusion {
-            grade: grade(endian::u16_at(certificate, 6)),
-        },
-    }
+    let grade = grade(endian::u16_at(certificate, 6));
+    accepted(Outcome::Exclusion { grade: grade })
 }
 
 fn grade(q: usize) -> Grade
@@ -75,41 +128,16 @@ fn grade(q: usize) -> Grade
     }
 }
 
-// Kind 4, of sound records.
-fn judge_lasso(
-    rows: &[u8],
+// Judges a certificate for a loop record that has been checked, so that a sheet checks its loop once.
+pub fn judge_sound(
+    loopbytes: &[u8],
     n: usize,
     m: usize,
     certificate: &[u8],
-    ms: usize,
     rank: &mut [i64],
 ) -> Verdict
-    requires { ⌜ LoopSound (now rows) n m × CertificateSound certificates-judged (now rows) (now certificate) lasso
-        × (ms ≡ counts-read (certificate-record certificates-judged (loop-record (now rows)) (now certificate)) .ms) ⌝ }
-    ensures { λ r. ⌜ Judged (now (rows .entry)) (now (certificate .entry)) (now (rank .entry)) r (now (rank .exit)) ⌝ }
-{
-    if rank.len() < n {
-        return refused(0, 7, n);
-    }
-    let shown = judge_conditions::lasso(rows, n, m, certificate, ms, rank);
-    if !shown.holds {
-        return refused(2, 8, 0);
-    }
-    Verdict {
-        number: 0,
-        place: 0,
-        about: 0,
-        outcome: Outcome::Lasso {
-            start: shown.start,
-            fall: shown.fall,
-        },
-    }
-}
-
-// Judges a certificate for a loop record that has been checked, so that a sheet checks its loop once.
-pub fn judge_sound(rows: &[u8], n: usize, m: usize, certificate: &[u8], rank: &mut [i64]) -> Verdict
-    requires { ⌜ LoopSound (now rows) n m ⌝ }
-    ensures { λ r. ⌜ Judged (now (rows .entry)) (now (certificate .entry)) (now (rank .entry)) r (now (rank .exit)) ⌝ }
+    requires { ⌜ LoopSound (now loopbytes) n m ⌝ }
+    ensures { λ r. ⌜ Judged (now (loopbytes .entry)) (now (certificate .entry)) (now (rank .entry)) r (now (rank .exit)) ⌝ }
 {
     let wanted = Wanted {
         ranking: true,
@@ -122,21 +150,20 @@ pub fn judge_sound(rows: &[u8], n: usize, m: usize, certificate: &[u8], rank: &m
     }
     let kind = said.kind;
     match kind {
-        2 => judge_ranking(rows, n, m, certificate, rank),
-        3 => judge_exclusion(rows, n, m, certificate),
-        4 => judge_lasso(rows, n, m, certificate, said.ms, rank),
+        2 | 4 => ranked_verdict(loopbytes, n, m, certificate, kind, said.ms, rank),
+        3 => exclusion_verdict(loopbytes, n, m, certificate),
         _ => refused(2, 4, 4),
     }
 }
 
 // Judges a certificate's bytes for a loop's bytes.
-pub fn judge(rows: &[u8], certificate: &[u8], rank: &mut [i64]) -> Verdict
-    ensures { λ r. ⌜ r ≡ judges (judge-of (now (rows .entry)) (now (certificate .entry)) (now (rank .entry))) ⌝ }
-    ensures { λ _. ⌜ now (rank .exit) ≡ rank-after (judge-of (now (rows .entry)) (now (certificate .entry)) (now (rank .entry))) (now (rank .entry)) ⌝ }
+pub fn judge(loopbytes: &[u8], certificate: &[u8], rank: &mut [i64]) -> Verdict
+    ensures { λ r. ⌜ r ≡ judges (judge-of (now (loopbytes .entry)) (now (certificate .entry)) (now (rank .entry))) ⌝ }
+    ensures { λ _. ⌜ now (rank .exit) ≡ rank-after (judge-of (now (loopbytes .entry)) (now (certificate .entry)) (now (rank .entry))) (now (rank .entry)) ⌝ }
 {
-    let said = record_check::check_loop(rows);
+    let said = record_check::check_loop(loopbytes);
     if said.number != 0 {
         return refused(1, said.number, said.place);
     }
-    judge_sound(rows, said.n, said.m, certificate, rank)
+    judge_sound(loopbytes, said.n, said.m, certificate, rank)
 }

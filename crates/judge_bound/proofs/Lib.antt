@@ -1,4 +1,4 @@
 pub mod States
 pub mod Ways
-pub mod ByKind
+pub mod BoundedKinds
 pub mod OneAnswer

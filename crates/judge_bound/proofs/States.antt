@@ -7,8 +7,8 @@ use native.Mathlib.Omega.{arith}
 use lib.IntN.{ℤ, pos, natAbs, _-ℤ_}
 use lib.ListN.{length, drop, getD}
 use lib.Signed.{leZ, ltZ, _≤ℤ_, _<ℤ_}
-use Rattle.judge_conditions.specs.Decided.{Decides}
-use Rattle.judge_conditions.proofs.Deciding.{answer-le}
+use Rattle.judge_conditions.specs.Whether.{Whether}
+use Rattle.judge_conditions.proofs.WhetherLaws.{answer-le}
 use lib.Seq.{drop-cons, drop-length}
 use native.Mathlib.Numerals.{add-one}
 use Rattle.record.specs.Ranges.{state-entries, within}
@@ -53,5 +53,5 @@ pub some-fall : (z : ℤ) → pos 0 <ℤ z → 0 < natAbs z
 some-fall z h = omega (arith, lt-fact (v (pos 0)) (v z) h, abs-fact (v z))
 
 -- a test of a number that is another says whether that one is below 0
-pub decides-le : (z w : ℤ) → z ≡ w → Decides (leZ (pos 0) z) (pos 0 ≤ℤ w)
+pub decides-le : (z w : ℤ) → z ≡ w → Whether (leZ (pos 0) z) (pos 0 ≤ℤ w)
 decides-le z w same = rw (← same) (answer-le (pos 0) z)

@@ -11,9 +11,9 @@ use Rattle.verdict.specs.Pairs.{variables-of, conditions}
 use Rattle.verdict.specs.Stages.{refusal, said, verdict-of}
 use Rattle.verdict.proofs.StageLaws.{stage-done, stage-refused}
 use Rattle.judge.proofs.Ways.{told-eight}
-use Rattle.judge_bound.specs.Told.{refusal-of}
+use Rattle.judge_bound.specs.Told.{no-bound}
 
-pub refused-so : (b : Bounding) (about number place : ℕ) → said bounding b ≡ refusal about number place → refusal-of about number place ≡ bounds b
+pub refused-so : (b : Bounding) (about number place : ℕ) → said bounding b ≡ refusal about number place → no-bound about number place ≡ bounds b
 unfolding bounds bounded verdict-of
 refused-so b about number place h = rw h
 

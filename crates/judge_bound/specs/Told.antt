@@ -7,8 +7,8 @@ use lib.Signed.{_<ℤ_}
 use lib.ListN.{length, take}
 use Rattle.whole.specs.Sums.{dot, Within}
 use Rattle.verdict.specs.Bounding.{before-outside}
+use Rattle.verdict.specs.Stages.{refusal-of}
 use Rattle.verdict.specs.declared.Bounded.{Bounded}
-use Rattle.judge.specs.Told as Judging
 
 -- a state of n entries, all in range
 pub record StateFits (state : List ℤ) (n : ℕ) : Type 0 where
@@ -16,11 +16,11 @@ pub record StateFits (state : List ℤ) (n : ℕ) : Type 0 where
   pub inside : before-outside state ≡ length state
 
 -- a refusal has no bound
-abbrev pub refusal-of : ℕ → ℕ → ℕ → Bounded
-refusal-of about number place = record { verdict = Judging.refusal-of about number place; bound = 0 }
+abbrev pub no-bound : ℕ → ℕ → ℕ → Bounded
+no-bound about number place = record { verdict = refusal-of about number place; bound = 0 }
 
--- what a bound at a state needs of a rank, so that every number fits
-pub record Ready (entries : List ℤ) (n : ℕ) (start fall : ℤ) (state : List ℤ) : Type 0 where
+-- what a bound at a state needs of a rank, its start and its fall, so that every number fits
+pub record BoundFits (entries : List ℤ) (n : ℕ) (start fall : ℤ) (state : List ℤ) : Type 0 where
   pub long : length entries ≡ 16
   pub entries-small : Within 274877906944 (take n entries)
   pub state-small : Within 1048576 state

@@ -8,29 +8,19 @@ ghost use lib.ListN.{length, take};
 ghost use Rattle.whole.specs.Sums.{Within};
 ghost use Rattle.theory.specs.Rankings as Rankings;
 ghost use Rattle.theory.specs.Lassos.{Invariant};
-ghost use Rattle.judge_conditions.specs.Decided.{Decides};
-ghost use Rattle.judge_conditions.specs.Held.{LassoIn, lasso-held};
-ghost use Rattle.record.specs.Layouts.{ranking, lasso};
-ghost use Rattle.record.specs.Readers.{counts-read};
 ghost use Rattle.verdict.specs.Bounding.{before-outside, bounds, bound-of, certificates-bounded};
-ghost use Rattle.verdict.specs.Pairs.{loop-record, certificate-record};
-ghost use Rattle.judge.specs.Told.{LoopSound, CertificateSound};
-ghost use Rattle.judge_bound.specs.Told.{refusal-of, StateFits, Ready};
+ghost use Rattle.judge_conditions.specs.Whether.{Whether};
+ghost use Rattle.judge_lasso.specs.LassoHeld.{LassoIn, lasso-held};
+ghost use Rattle.judge.specs.Told.{LoopSound, RankSound};
+ghost use Rattle.judge_bound.specs.Told.{no-bound, StateFits, BoundFits};
 use record::Wanted;
 use verdict::Bounded;
-use verdict::Outcome;
-use verdict::Verdict;
 
 fn refused(about: usize, number: usize, place: usize) -> Bounded
-    ensures { λ r. ⌜ r ≡ refusal-of about number place ⌝ }
+    ensures { λ r. ⌜ r ≡ no-bound about number place ⌝ }
 {
     Bounded {
-        verdict: Verdict {
-            number: number,
-            place: place,
-            about: about,
-            outcome: Outcome::Nothing,
-        },
+        verdict: judge::refused(about, number, place),
         bound: 0,
     }
 }
@@ -62,41 +52,17 @@ fn steps(value: i64, start: i64, fall: i64) -> usize
 
 // The bound at a state by a rank, its start and its fall.
 fn bound_at(entries: &[i64], n: usize, start: i64, fall: i64, state: &[i64]) -> usize
-    requires { ⌜ Ready (now entries) n start fall (now state) × (n ≤ 16) × (length (now state) ≡ n) ⌝ }
+    requires { ⌜ BoundFits (now entries) n start fall (now state) × (n ≤ 16) × (length (now state) ≡ n) ⌝ }
     ensures { λ r. ⌜ r ≡ Rankings.bound (take n (now (entries .entry))) start fall (now (state .entry)) ⌝ }
 {
     let value = judge_sums::rank_at(&entries[..n], state);
     steps(value.sum, start, fall)
 }
 
-// Kind 2, of sound records and a state in range.
-fn bound_ranking(rows: &[u8], n: usize, m: usize, certificate: &[u8], state: &[i64]) -> Bounded
-    requires { ⌜ LoopSound (now rows) n m × CertificateSound certificates-bounded (now rows) (now certificate) ranking × StateFits (now state) n ⌝ }
-    ensures { λ r. ⌜ r ≡ bounds (bound-of (now (rows .entry)) (now (certificate .entry)) (now (state .entry))) ⌝ }
-{
-    let mut entries = [0i64; 16];
-    let shown = judge_conditions::ranking(rows, n, m, certificate, &mut entries);
-    if !shown.holds {
-        return refused(2, 8, 0);
-    }
-    Bounded {
-        verdict: Verdict {
-            number: 0,
-            place: 0,
-            about: 0,
-            outcome: Outcome::Ranking {
-                start: shown.start,
-                fall: shown.fall,
-            },
-        },
-        bound: bound_at(&entries, n, shown.start, shown.fall, state),
-    }
-}
-
 // A lasso's invariant at a state.
 fn meets_invariant(certificate: &[u8], n: usize, m: usize, ms: usize, state: &[i64]) -> bool
     requires { ⌜ LassoIn (now certificate) n m ms × (length (now state) ≡ n) × Within 1048576 (now state) ⌝ }
-    ensures { λ r. ⌜ Decides r (Invariant (lasso-held (now (certificate .entry)) n m ms) (now (state .entry))) ⌝ }
+    ensures { λ r. ⌜ Whether r (Invariant (lasso-held (now (certificate .entry)) n m ms) (now (state .entry))) ⌝ }
 {
     let s = 8 + ms * (4 * n + 4);
     let reached = judge_sums::entries_at(certificate, s, state);
@@ -104,45 +70,48 @@ fn meets_invariant(certificate: &[u8], n: usize, m: usize, ms: usize, state: &[i
     0 <= reached.sum + right
 }
 
-// Kind 4, of sound records and a state in range.
-fn bound_lasso(
-    rows: &[u8],
+// Whether a certificate's bound is for a state: a lasso's is for those that meet its invariant, a ranking's for all.
+fn speaks_of(certificate: &[u8], n: usize, m: usize, kind: usize, ms: usize, state: &[i64]) -> bool
+    requires { ⌜ (kind ≡ 4 → LassoIn (now certificate) n m ms) × (length (now state) ≡ n) × Within 1048576 (now state) ⌝ }
+    ensures { λ r. ⌜ Whether r (kind ≡ 4 → Invariant (lasso-held (now (certificate .entry)) n m ms) (now (state .entry))) ⌝ }
+{
+    if kind != 4 {
+        return true;
+    }
+    meets_invariant(certificate, n, m, ms, state)
+}
+
+// Kinds 2 and 4, of sound records and a state in range.
+fn ranked_bound(
+    loopbytes: &[u8],
     n: usize,
     m: usize,
     certificate: &[u8],
+    kind: usize,
     ms: usize,
     state: &[i64],
 ) -> Bounded
-    requires { ⌜ LoopSound (now rows) n m × CertificateSound certificates-bounded (now rows) (now certificate) lasso
-        × (ms ≡ counts-read (certificate-record certificates-bounded (loop-record (now rows)) (now certificate)) .ms) × StateFits (now state) n ⌝ }
-    ensures { λ r. ⌜ r ≡ bounds (bound-of (now (rows .entry)) (now (certificate .entry)) (now (state .entry))) ⌝ }
+    requires { ⌜ LoopSound (now loopbytes) n m × RankSound certificates-bounded (now loopbytes) (now certificate) kind ms × StateFits (now state) n ⌝ }
+    ensures { λ r. ⌜ r ≡ bounds (bound-of (now (loopbytes .entry)) (now (certificate .entry)) (now (state .entry))) ⌝ }
 {
     let mut entries = [0i64; 16];
-    let shown = judge_conditions::lasso(rows, n, m, certificate, ms, &mut entries);
+    let shown = judge::rank_conditions(loopbytes, n, m, certificate, kind, ms, &mut entries);
     if !shown.holds {
         return refused(2, 8, 0);
     }
-    if !meets_invariant(certificate, n, m, ms, state) {
+    if !speaks_of(certificate, n, m, kind, ms, state) {
         return refused(2, 11, 0);
     }
     Bounded {
-        verdict: Verdict {
-            number: 0,
-            place: 0,
-            about: 0,
-            outcome: Outcome::Lasso {
-                start: shown.start,
-                fall: shown.fall,
-            },
-        },
+        verdict: judge::accepted(judge::rank_outcome(kind, shown.start, shown.fall)),
         bound: bound_at(&entries, n, shown.start, shown.fall, state),
     }
 }
 
 // A certificate and a state for a loop record that has been checked.
-fn bound_sound(rows: &[u8], n: usize, m: usize, certificate: &[u8], state: &[i64]) -> Bounded
-    requires { ⌜ LoopSound (now rows) n m ⌝ }
-    ensures { λ r. ⌜ r ≡ bounds (bound-of (now (rows .entry)) (now (certificate .entry)) (now (state .entry))) ⌝ }
+fn bound_sound(loopbytes: &[u8], n: usize, m: usize, certificate: &[u8], state: &[i64]) -> Bounded
+    requires { ⌜ LoopSound (now loopbytes) n m ⌝ }
+    ensures { λ r. ⌜ r ≡ bounds (bound-of (now (loopbytes .entry)) (now (certificate .entry)) (now (state .entry))) ⌝ }
 {
     let wanted = Wanted {
         ranking: true,
@@ -163,19 +132,18 @@ fn bound_sound(rows: &[u8], n: usize, m: usize, certificate: &[u8], state: &[i64
     }
     let kind = said.kind;
     match kind {
-        2 => bound_ranking(rows, n, m, certificate, state),
-        4 => bound_lasso(rows, n, m, certificate, said.ms, state),
+        2 | 4 => ranked_bound(loopbytes, n, m, certificate, kind, said.ms, state),
         _ => refused(2, 4, 4),
     }
 }
 
 // The bound on steps from a state, by a certificate's bytes for a loop's bytes.
-pub fn bound(rows: &[u8], certificate: &[u8], state: &[i64]) -> Bounded
-    ensures { λ r. ⌜ r ≡ bounds (bound-of (now (rows .entry)) (now (certificate .entry)) (now (state .entry))) ⌝ }
+pub fn bound(loopbytes: &[u8], certificate: &[u8], state: &[i64]) -> Bounded
+    ensures { λ r. ⌜ r ≡ bounds (bound-of (now (loopbytes .entry)) (now (certificate .entry)) (now (state .entry))) ⌝ }
 {
-    let said = record_check::check_loop(rows);
+    let said = record_check::check_loop(loopbytes);
     if said.number != 0 {
         return refused(1, said.number, said.place);
     }
-    bound_sound(rows, said.n, said.m, certificate, state)
+    bound_sound(loopbytes, said.n, said.m, certificate, state)
 }

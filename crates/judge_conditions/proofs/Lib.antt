@@ -1,7 +1,2 @@
-pub mod Deciding
-pub mod RankedLaws
 pub mod Totals
-pub mod ExcludedLaws
-pub mod CarriedLaws
-pub mod AddedLaws
-pub mod LassoLaws
+pub mod WhetherLaws

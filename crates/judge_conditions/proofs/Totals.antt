@@ -1,25 +1,22 @@
 -- The totals of crate `judge_sums` are the sums of the theory, over the lists that the bytes hold; and they fit 64 bits, so that what is passed on is the total itself.
 use mathlib.Core.Path.{_≡_, _∙_}
 use Prim.Native.Nat.{ℕ, _+_, _*_, _<_, _≤_}
-use mathlib.Core.Bool.{Bool}
 use mathlib.Core.List.{List}
+use lib.ListN.{getD}
 use native.Mathlib.Nat.{mul-le-mul-right}
 use native.Mathlib.Omega.{arith}
-use lib.IntN.{ℤ, pos, natAbs}
-use lib.ListN.{replicate, getD-replicate}
+use lib.IntN.{ℤ, pos, natAbs, _*ℤ_}
 use mir.Syntax.{w64}
 use mir.Val.{SFits, ofZ, toZ}
 use mir.Facts.{toZ-ofZ}
 use Rattle.whole.specs.Sums.{sum}
-use Rattle.whole.proofs.Size.{fits-abs}
-use Rattle.judge_sums.specs.Lists.{multipliersFrom, rowsFrom}
-use Rattle.judge_sums.specs.Places.{rightTerm, liftTerm, ColumnOf, SumsOf, AllNone, mostEntry}
+use Rattle.whole.proofs.Size.{abs-product, fits-abs}
+use Rattle.whole.proofs.Tables.{tabulate-at}
+use Rattle.judge_sums.specs.Lists.{multipliersFrom, rowsFrom, entriesFrom}
+use Rattle.judge_sums.specs.Places.{rightTerm, ColumnOf, mostEntry, entryAt}
 use Rattle.judge_sums.specs.Running.{CanGrow, Modest, SumOf}
-use Rattle.judge_sums.proofs.LiftLaws.{column-in}
 use Rattle.judge_sums.proofs.ListLaws.{now-over-rows, next-over-rows, right-over-rows}
 use Rattle.theory.specs.Loops.{A, A′, b}
-use Rattle.judge_conditions.specs.Decided.{Decides, ColumnHolds, Totalled}
-use Rattle.judge_conditions.specs.Held.{loop-held, ranking-held}
 
 -- ---- sizes
 
@@ -50,33 +47,13 @@ pub right-is : (multipliers : List ℕ) (place : ℕ) (rows : List ℕ) (start n
     → s ≡ sum (multipliersFrom multipliers place count) b (rowsFrom rows n start count)
 right-is multipliers place rows start n count s h = h .is ∙ right-over-rows multipliers place rows start n count
 
--- ---- the three conditions at a column
+-- ---- a list of entries
 
--- a column whose totals, as they are passed on, are tested
-pub column-decided : (answer : Bool) (ya ya2 za za2 : ℤ) → CanGrow ya → CanGrow ya2 → CanGrow za → CanGrow za2
-    → Decides answer (ColumnHolds (toZ w64 (ofZ w64 ya)) (toZ w64 (ofZ w64 ya2)) (toZ w64 (ofZ w64 za)) (toZ w64 (ofZ w64 za2)))
-    → Decides answer (ColumnHolds ya ya2 za za2)
-column-decided answer ya ya2 za za2 ya-grows ya2-grows za-grows za2-grows d =
-    rw (toZ-ofZ (grown-fits ya-grows), toZ-ofZ (grown-fits ya2-grows), toZ-ofZ (grown-fits za-grows), toZ-ofZ (grown-fits za2-grows)) at d
+pub entry-is : (bytes : List ℕ) (place n j : ℕ) → j < n → getD (entriesFrom bytes place n) j (pos 0) ≡ entryAt bytes (place + 2 * j)
+unfolding entriesFrom
+entry-is bytes place n j below = tabulate-at n (λ j. entryAt bytes (place + 2 * j)) j (pos 0) below
 
--- the lifted totals of a ranking record's rows, less the lifts
-pub totalled : (rows certificate : List ℕ) (n m place : ℕ) (ys : List ℤ) (ylift : ℤ) (zs : List ℤ) (zlift : ℤ) → m ≤ 65
-    → SumsOf certificate place rows 10 n m ys → SumOf m mostEntry (liftTerm certificate place) ylift
-    → SumsOf certificate (place + 2 * m) rows 10 n m zs → SumOf m mostEntry (liftTerm certificate (place + 2 * m)) zlift
-    → Totalled ys ylift zs zlift (loop-held rows n m) (ranking-held certificate place m)
-unfolding loop-held ranking-held
-totalled rows certificate n m place ys ylift zs zlift few y y-lift z z-lift j below =
-    let under-y = column-in certificate place rows 10 n m j ys ylift y y-lift below in
-    let under-z = column-in certificate (place + 2 * m) rows 10 n m j zs zlift z z-lift below in (
-      now-is certificate place rows 10 n j m _ _ few under-y below,
-      next-is certificate place rows 10 n j m _ _ few under-y below,
-      now-is certificate (place + 2 * m) rows 10 n j m _ _ few under-z below,
-      next-is certificate (place + 2 * m) rows 10 n j m _ _ few under-z below,
-    )
-
--- a list of zeros to start from
-pub zeros : (width : ℕ) → width ≤ 32 → AllNone width (replicate 32 (pos 0))
-zeros width few k below = getD-replicate 32 k (pos 0) (pos 0) (omega arith)
+-- ---- what is passed on
 
 -- what is small enough for a difference fits, and is passed on so
 pub modest-fits : {s : ℤ} → Modest s → SFits w64 s
@@ -95,3 +72,10 @@ right-small count term s few h = omega (arith, h .small, mul-le-mul-right 140735
 -- a number on file that is passed on
 pub passed-small : (z : ℤ) (most : ℕ) → most ≤ 2147483648 → natAbs z ≤ most → natAbs (toZ w64 (ofZ w64 z)) ≤ most
 passed-small z most few small = rw (toZ-ofZ (fits-abs {z = z} (omega arith))) small
+
+-- a count or multiplier times a number on file
+pub times-small : (k : ℕ) (z : ℤ) → k < 65536 → natAbs z ≤ 2147483648 → natAbs (pos k *ℤ z) ≤ 140735340871680
+times-small k z h small = omega (arith, abs-product (pos k) z (below k h) small)
+  where
+    below : (k : ℕ) → k < 65536 → k ≤ 65535
+    below k h = omega arith

@@ -1,2 +1,2 @@
-pub mod Decided
-pub mod Held
+pub mod LoopHeld
+pub mod Whether

@@ -22,10 +22,9 @@ use Rattle.verdict.specs.Contents.{loop-in, ranking-in, exclusion-in, la
 use Rattle.verdict.specs.Judging.{Judging, rank-room, judging, judges, ranks, rank-after}
 use Rattle.verdict.specs.Outcomes.{grade-of}
 use Rattle.verdict.specs.Pairs.{Pair, kind-of, variables-of, folded, conditions-told, conditions, ranked-loop, ranking-of, rank-of, start-of, fall-of, outcome-of}
-use Rattle.verdict.specs.declared.Verdict.{Verdict}
 use Rattle.verdict.specs.declared.Outcome.{Outcome}
 use Rattle.verdict.specs.declared.Outcome.the-variants.{Ranking, Exclusion, Lasso}
-use Rattle.verdict.specs.Stages.{Said, agreed, refusal, said, verdict-of}
+use Rattle.verdict.specs.Stages.{Said, agreed, refusal, said, shows, verdict-of}
 use Rattle.verdict.proofs.StageLaws.{Agrees, agrees-said, said-agrees, number-said, Named, zero-agreed}
 
 -- both records of a pair are sound
@@ -152,10 +151,6 @@ accepted-exactly-when-lasso j e =
     )
 
 -- ---- what an accepted judging answers: -Yb, -Zb, ZA' of the loop, of a lasso's over the loop with the added row; a grade
-
--- a verdict that shows an outcome
-abbrev pub shows : Outcome → Verdict
-shows outcome = record { number = 0; place = 0; about = 0; outcome = outcome }
 
 accepted-said : (j : Judging) → judges j .number ≡ 0 → said judging j ≡ agreed
 accepted-said j h = agrees-said judging j (accepts-agrees j .0 h)

@@ -23,10 +23,10 @@ use Rattle.theory.specs.Rankings as Rankings
 use Rattle.verdict.specs.Bounding.{Bounding, before-outside, state-tests, invariant, bounding, bounded, bounds}
 use Rattle.verdict.specs.Contents.{loop-in, ranking-in, lasso-in}
 use Rattle.verdict.specs.Pairs.{kind-of, variables-of, conditions, ranked-loop, ranking-of, rank-of, start-of, fall-of, outcome-of}
-use Rattle.verdict.specs.Stages.{Said, agreed, refusal, said, verdict-of}
+use Rattle.verdict.specs.Stages.{Said, agreed, refusal, said, verdict-of, shows}
 use Rattle.verdict.specs.declared.Outcome.{Outcome}
 use Rattle.verdict.specs.declared.Outcome.the-variants.{Ranking, Lasso}
-use Rattle.verdict.proofs.Accepted.{Both-sound, folded-named, ranking-conditions, lasso-conditions, shows}
+use Rattle.verdict.proofs.Accepted.{Both-sound, folded-named, ranking-conditions, lasso-conditions}
 use Rattle.verdict.proofs.StageLaws.{Agrees, agrees-said, said-agrees, number-said, Named, zero-agreed}
 
 -- ---- a state in range

@@ -20,8 +20,7 @@ use Rattle.verdict.specs.declared.Verdict.{Verdict}
 use Rattle.record.specs.Contents.{rows-values, row-values, ranking-values, exclusion-values}
 use Rattle.record.specs.Samples as Records
 use Rattle.refusal.proofs.TestLaws.{passes-done}
-use Rattle.verdict.specs.Stages.{agreed, said}
-use Rattle.verdict.proofs.Accepted.{shows}
+use Rattle.verdict.specs.Stages.{agreed, said, shows}
 use Rattle.verdict.proofs.BoundAnswers.{before-inside}
 use Rattle.verdict.proofs.StageLaws.{agrees-said}
 use borrow.Author.Tests.{eq-eqb}

@@ -9,7 +9,7 @@ use lib.IntN.{ℤ, pos}
 use lib.ListN.{length, replicate}
 use Rattle.record.specs.Contents.{rows-values, row-values, ranking-values, lasso-values}
 use Rattle.record.specs.Layouts.{ranking, exclusion, lasso}
-use Rattle.record.specs.Ranges.{_to_, either-way, variables, rows, entries, right-sides, multipliers}
+use Rattle.record.specs.Ranges.{either-way, variables, rows, entries, right-sides, multipliers, _to_}
 use Rattle.record.specs.Samples as Records
 use Rattle.theory.specs.Loops.{Run}
 use Rattle.theory.specs.Samples as Rows
@@ -18,6 +18,7 @@ use Rattle.theory.specs.Table as Theory
 use Rattle.theory.proofs.Decisions.{ranking-decided}
 use Rattle.theory.proofs.Pins.{S10-stem-step}
 use Rattle.whole.specs.Sums.{Each}
+use Rattle.verdict.specs.Stages.{shows}
 use Rattle.verdict.specs.Computing.{computing}
 use Rattle.verdict.specs.Contents.{loop-in, ranking-in, exclusion-in, lasso-in}
 use Rattle.verdict.specs.Judging.{judges, judge-of}
@@ -25,7 +26,6 @@ use Rattle.verdict.specs.Pairs.{Pair, kind-of}
 use Rattle.verdict.specs.Samples.{−, loop-bytes, lasso-bytes, P, with-stem, S1, S10, S10-parts, S10-scaled, unlike-loop, unlike-ranking, excluded-loop, unlike-exclusion, lasso-loop, unlike-lasso}
 use Rattle.verdict.specs.declared.Grade.the-variants.{Whole}
 use Rattle.verdict.specs.declared.Outcome.the-variants.{Ranking, Exclusion, Lasso}
-use Rattle.verdict.proofs.Accepted.{shows}
 use Rattle.verdict.proofs.Demands.{lasso-ends}
 use Rattle.verdict.proofs.InValues.{bytes-in, loop-writer, Loop-given, ranking-in-values}
 use Rattle.verdict.proofs.SampleSheet.{fails, Claim, judged, bounded-at, Holds}

@@ -15,7 +15,7 @@ use Rattle.refusal.specs.Tests.{Test, _at_unless_, first}
 use Rattle.theory.specs.Rankings as Rankings
 use Rattle.whole.specs.Sums.{dot}
 use Rattle.verdict.specs.Contents.{lasso-in}
-use Rattle.verdict.specs.Pairs.{loop-record, certificate-record, Pair, kind-of, variables-of, conditions, rank-of, start-of, fall-of, outcome-of}
+use Rattle.verdict.specs.Pairs.{Pair, pair-of, kind-of, variables-of, conditions, rank-of, start-of, fall-of, outcome-of}
 use Rattle.verdict.specs.Stages.{Said, agreed, refusal, Stage, _says_, said, verdict-of}
 use Rattle.verdict.specs.declared.Bounded.{Bounded}
 use Rattle.verdict.specs.declared.Outcome.{Outcome}
@@ -68,4 +68,4 @@ bounds b =
 
 -- bound on bytes
 unfoldable pub bound-of : List ℕ → List ℕ → List ℤ → Bounding
-bound-of l c state = record { records = record { loop-is = loop-record l; certificate-is = certificate-record certificates-bounded (loop-record l) c }; state = state }
+bound-of l c state = record { records = pair-of certificates-bounded l c; state = state }

@@ -11,7 +11,7 @@ use Rattle.record.specs.Readers.{sound}
 use Rattle.record.specs.Wants.{wants-of}
 use Rattle.refusal.specs.Tests.{Test, _at_unless_, first}
 use Rattle.theory.specs.Conditions.{ranked}
-use Rattle.verdict.specs.Pairs.{loop-record, certificate-record, Pair, kind-of, variables-of, conditions, rank-of, outcome-of}
+use Rattle.verdict.specs.Pairs.{Pair, pair-of, kind-of, variables-of, conditions, rank-of, outcome-of}
 use Rattle.verdict.specs.Stages.{Said, agreed, refusal, Stage, _says_, said, verdict-of}
 use Rattle.verdict.specs.declared.Verdict.{Verdict}
 
@@ -49,4 +49,4 @@ rank-after j lent = ranks (said judging j) (has-rank (kind-of (j .records))) (ra
 
 -- the judge on bytes
 unfoldable pub judge-of : List ℕ → List ℕ → List ℤ → Judging
-judge-of l c lent = record { records = record { loop-is = loop-record l; certificate-is = certificate-record certificates-judged (loop-record l) c }; room = length lent }
+judge-of l c lent = record { records = pair-of certificates-judged l c; room = length lent }

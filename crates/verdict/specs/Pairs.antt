@@ -35,6 +35,10 @@ pub record Pair : Type 0 where
   pub loop-is : Reader
   pub certificate-is : Reader
 
+-- of bytes, with the kinds that are wanted
+abbrev pub pair-of : (Kind → Bool) → List ℕ → List ℕ → Pair
+pair-of wants l c = record { loop-is = loop-record l; certificate-is = certificate-record wants (loop-record l) c }
+
 -- the certificate's kind, and n
 unfoldable pub kind-of : Pair → Kind
 kind-of p = kind (p .certificate-is)

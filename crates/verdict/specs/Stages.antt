@@ -20,7 +20,13 @@ unfoldable pub said : {I : Type 0} → List (Stage I) → I → Said
 said [] i = agreed
 said ((about says told) ∷ stages) i = elim (told i) [ done ↦ said stages i | refused number place ↦ refusal about number place ]
 
--- a refusal's outcome is nothing
+-- what is accepted shows an outcome; a refusal's outcome is nothing
+abbrev pub shows : Outcome → Verdict
+shows outcome = record { number = 0; place = 0; about = 0; outcome = outcome }
+
+abbrev pub refusal-of : ℕ → ℕ → ℕ → Verdict
+refusal-of about number place = record { number = number; place = place; about = about; outcome = Nothing }
+
 unfoldable pub verdict-of : Said → Outcome → Verdict
-verdict-of agreed outcome = record { number = 0; place = 0; about = 0; outcome = outcome }
-verdict-of (refusal about number place) outcome = record { number = number; place = place; about = about; outcome = Nothing }
+verdict-of agreed outcome = shows outcome
+verdict-of (refusal about number place) outcome = refusal-of about number place

@@ -18,15 +18,15 @@ unfolding judge-of
 returns c =
     let called = c .before .before .before in
     let a = called .before .before .before .args in
-    let j = judge-of (a .rows .now) (a .certificate .now) (a .rank .now) in
+    let j = judge-of (a .loopbytes .now) (a .certificate .now) (a .rank .now) in
     let v = called .check-loop .result in
-    let told = refused-so j (a .rank .now) 1 (v .number) (v .place) (at-loop j _ _ (loop-refused (a .rows .now) v (called .check-loop .ensures) (c .before .if1 .taken))) in
+    let told = refused-so j (a .rank .now) 1 (v .number) (v .place) (at-loop j _ _ (loop-refused (a .loopbytes .now) v (called .check-loop .ensures) (c .before .if1 .taken))) in
     (c .refused .ensures ∙ told .0, told .1)
 
 judge-sound-requires : tie.Need-judge-sound-requires
 judge-sound-requires c κs =
     let called = c .before .before .before in
-    loop-sound (called .before .before .before .args .rows .now) (called .check-loop .result) (called .check-loop .ensures) (c .before .if1 .left)
+    loop-sound (called .before .before .before .args .loopbytes .now) (called .check-loop .result) (called .check-loop .ensures) (c .before .if1 .left)
 
 same-length : tie.Need-same-length
 same-length c = search needs

@@ -18,14 +18,14 @@ unfolding bound-of
 returns c =
     let called = c .before .before .before in
     let a = called .before .before .before .args in
-    let b = bound-of (a .rows .now) (a .certificate .now) (a .state .now) in
+    let b = bound-of (a .loopbytes .now) (a .certificate .now) (a .state .now) in
     let v = called .check-loop .result in
-    c .refused .ensures ∙ refused-so b 1 (v .number) (v .place) (at-loop b _ _ (loop-refused (a .rows .now) v (called .check-loop .ensures) (c .before .if1 .taken)))
+    c .refused .ensures ∙ refused-so b 1 (v .number) (v .place) (at-loop b _ _ (loop-refused (a .loopbytes .now) v (called .check-loop .ensures) (c .before .if1 .taken)))
 
 bound-sound-requires : tie.Need-bound-sound-requires
 bound-sound-requires c κs =
     let called = c .before .before in
-    loop-sound (called .before .before .before .args .rows .now) (called .check-loop .result) (called .check-loop .ensures) (c .if1 .left)
+    loop-sound (called .before .before .before .args .loopbytes .now) (called .check-loop .result) (called .check-loop .ensures) (c .if1 .left)
 
 returns-2 : tie.Need-returns-2
 returns-2 c = search needs

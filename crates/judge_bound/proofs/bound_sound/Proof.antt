@@ -1,13 +1,15 @@
 -- `judge_bound::bound_sound` meets its contract: the certificate is checked, then the state; the kind leads to the conditions. Assumes nothing.
+use mathlib.Core.Logic.{inl, inr}
+use mathlib.Core.Bool.{false≢true}
 use mathlib.Core.Path.{refl, sym, ap, _∙_}
-use Rattle.record.specs.Layouts.{ranking, lasso, kindOf}
 use Rattle.record.proofs.KindLaws.{unwanted-kind}
 use Rattle.record_check.specs.Checks.{certificate-check}
 use lib.ListN.{length}
 use Rattle.verdict.specs.Bounding.{before-outside, bound-of, certificates-bounded}
 use Rattle.verdict.specs.Pairs.{variables-of}
-use Rattle.judge_bound.specs.Told.{refusal-of, StateFits}
-use Rattle.judge.proofs.Entered.{certificate-refused, certificate-told, ms-told, no-other, sound-as}
+use Rattle.judge_bound.specs.Told.{no-bound, StateFits}
+use Rattle.judge.proofs.Entered.{certificate-refused, certificate-told, kind-wanted, rank-sound-as}
+use Rattle.judge.proofs.RankKinds.{two-or-four}
 use Rattle.judge_bound.proofs.Ways.{refused-so, at-certificate, at-count, at-outside}
 use borrow.Author.Needs.{needs}
 use Rattle.judge_bound.proofs.bound_sound.Statement.{statement}
@@ -26,8 +28,8 @@ returns c =
     let s = called .before .before .before in
     let a = s .args in
     let v = called .check-certificate .result in
-    let b = bound-of (a .rows .now) (a .certificate .now) (a .state .now) in
-    c .refused .ensures ∙ refused-so b 2 (v .number) (v .place) (at-certificate b (s .pre .told) _ _ (certificate-refused certificates-bounded (a .rows .now) (a .n) (a .m) (s .pre) (a .certificate .now) v (called .check-certificate .ensures) (c .before .if1 .taken)))
+    let b = bound-of (a .loopbytes .now) (a .certificate .now) (a .state .now) in
+    c .refused .ensures ∙ refused-so b 2 (v .number) (v .place) (at-certificate b (s .pre .told) _ _ (certificate-refused certificates-bounded (a .loopbytes .now) (a .n) (a .m) (s .pre) (a .certificate .now) v (called .check-certificate .ensures) (c .before .if1 .taken)))
 
 refused-requires-2 : tie.Need-refused-requires-2
 refused-requires-2 c κs = search needs
@@ -39,10 +41,10 @@ returns-2 c =
     let s = called .before .before .before in
     let a = s .args in
     let v = called .check-certificate .result in
-    let b = bound-of (a .rows .now) (a .certificate .now) (a .state .now) in
+    let b = bound-of (a .loopbytes .now) (a .certificate .now) (a .state .now) in
     c .refused2 .ensures
     ∙ refused-so b 0 10 (length (a .state .now))
-    (at-count b (s .pre .told) (certificate-told certificates-bounded (a .rows .now) (a .n) (a .m) (s .pre) (a .certificate .now) v (called .check-certificate .ensures) (c .before .before .if1 .left)) (λ e. c .before .if2 .taken (e ∙ sym (s .pre .n-is))))
+    (at-count b (s .pre .told) (certificate-told certificates-bounded (a .loopbytes .now) (a .n) (a .m) (s .pre) (a .certificate .now) v (called .check-certificate .ensures) (c .before .before .if1 .left)) (λ e. c .before .if2 .taken (e ∙ sym (s .pre .n-is))))
 
 before-outside-requires : tie.Need-before-outside-requires
 before-outside-requires c κs = search needs
@@ -57,57 +59,46 @@ returns-3 c =
     let s = called .before .before .before in
     let a = s .args in
     let v = called .check-certificate .result in
-    let b = bound-of (a .rows .now) (a .certificate .now) (a .state .now) in
+    let b = bound-of (a .loopbytes .now) (a .certificate .now) (a .state .now) in
     let inside = c .before .before .before-outside in
     let counted = c .before .before .before .if2 .left ∙ s .pre .n-is in
     c .refused3 .ensures
-    ∙ ap (refusal-of 0 9) (inside .ensures)
+    ∙ ap (no-bound 0 9) (inside .ensures)
     ∙ refused-so b 0 9 (before-outside (a .state .now))
-    (at-outside b (s .pre .told) (certificate-told certificates-bounded (a .rows .now) (a .n) (a .m) (s .pre) (a .certificate .now) v (called .check-certificate .ensures) (c .before .before .before .before .if1 .left)) counted (λ e. c .before .if3 .taken (inside .ensures ∙ e)))
+    (at-outside b (s .pre .told) (certificate-told certificates-bounded (a .loopbytes .now) (a .n) (a .m) (s .pre) (a .certificate .now) v (called .check-certificate .ensures) (c .before .before .before .before .if1 .left)) counted (λ e. c .before .if3 .taken (inside .ensures ∙ e)))
 
-bound-ranking-requires : tie.Need-bound-ranking-requires
-unfolding certificate-check kindOf
-bound-ranking-requires c κs =
-    let called = c .before .before .before .before .before .before in
+ranked-bound-requires : tie.Need-ranked-bound-requires
+unfolding certificate-check
+ranked-bound-requires c κs =
+    let inside = c .before in
+    let counted = inside .before .before in
+    let passed = counted .before in
+    let called = passed .before .before in
     let s = called .before .before .before in
     let a = s .args in
     let v = called .check-certificate .result in
-    let zero = c .before .before .before .before .if1 .left in
-    let state : StateFits (a .state .now) (a .n) = record { long = c .before .before .before .if2 .left; inside = sym (c .before .before .before-outside .ensures) ∙ c .before .if3 .left } in
-    (s .pre, sound-as certificates-bounded (a .rows .now) (a .n) (a .m) (s .pre) (a .certificate .now) v (called .check-certificate .ensures) zero ranking (ap kindOf (c .match .keys1)), state)
-
-bound-lasso-requires : tie.Need-bound-lasso-requires
-unfolding certificate-check kindOf
-bound-lasso-requires c κs =
-    let called = c .before .before .before .before .before .before in
-    let s = called .before .before .before in
-    let a = s .args in
-    let v = called .check-certificate .result in
-    let zero = c .before .before .before .before .if1 .left in
-    let state : StateFits (a .state .now) (a .n) = record { long = c .before .before .before .if2 .left; inside = sym (c .before .before .before-outside .ensures) ∙ c .before .if3 .left } in
-    (s .pre, sound-as certificates-bounded (a .rows .now) (a .n) (a .m) (s .pre) (a .certificate .now) v (called .check-certificate .ensures) zero lasso (ap kindOf (c .match .keys2)), ms-told certificates-bounded (a .rows .now) (a .n) (a .m) (s .pre) (a .certificate .now) v (called .check-certificate .ensures) zero, state)
-
-returns-4 : tie.Need-returns-4
-returns-4 c = search needs
-
-returns-5 : tie.Need-returns-5
-returns-5 c = search needs
+    let state : StateFits (a .state .now) (a .n) = record { long = counted .if2 .left; inside = sym (inside .before .before-outside .ensures) ∙ inside .if3 .left } in
+    (s .pre, rank-sound-as certificates-bounded (a .loopbytes .now) (a .n) (a .m) (s .pre) (a .certificate .now) v (called .check-certificate .ensures) (passed .if1 .left) (two-or-four _ (c .match .keys1)), state)
 
 refused-requires-4 : tie.Need-refused-requires-4
 refused-requires-4 c κs = search needs
 
+returns-4 : tie.Need-returns-4
+returns-4 c = search needs
+
 -- no other kind is left
-returns-6 : tie.Need-returns-6
+returns-5 : tie.Need-returns-5
 unfolding certificate-check
-returns-6 c =
-    let called = c .before .before .before .before .before .before .before in
+returns-5 c =
+    let arm = c .before in
+    let passed = arm .before .before .before .before in
+    let called = passed .before .before in
     let s = called .before .before .before in
     let a = s .args in
-    let zero = c .before .before .before .before .before .if1 .left in
-    let rest = c .before .match .rest in
-    absurd
-    (no-other certificates-bounded (a .rows .now) (a .n) (a .m) (s .pre) (a .certificate .now) (called .check-certificate .result) (called .check-certificate .ensures) zero
-    (unwanted-kind _ _ (λ e. absurd (rest .0 .1 e)) (λ e. refl) (λ e. absurd (rest .1 e))))
+    let rest = arm .match .rest .1 in
+    let v = called .check-certificate .result in
+    let wanted = kind-wanted certificates-bounded (a .loopbytes .now) (a .n) (a .m) (s .pre) (a .certificate .now) v (called .check-certificate .ensures) (passed .if1 .left) in
+    absurd (false≢true (sym (unwanted-kind _ _ (λ two. absurd (rest (inl two))) (λ three. refl) (λ four. absurd (rest (inr four)))) ∙ wanted))
 
 pub bound-sound-spec : {M : Type 1} → statement M
 bound-sound-spec =
@@ -121,9 +112,7 @@ bound-sound-spec =
     before-outside-requires
     refused-requires-3
     returns-3
-    bound-ranking-requires
-    bound-lasso-requires
+    ranked-bound-requires
     refused-requires-4
     returns-4
-    returns-5
-    returns-6)
+    returns-5)

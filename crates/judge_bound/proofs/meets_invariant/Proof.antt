@@ -9,7 +9,7 @@ use Rattle.whole.proofs.Size.{abs-add, fits-abs}
 use Rattle.judge_sums.specs.Lists.{entriesFrom}
 use Rattle.judge_sums.specs.Places.{rightAt}
 use Rattle.judge_sums.proofs.ListLaws.{state-dot}
-use Rattle.judge_conditions.specs.Held.{lasso-held, s-place}
+use Rattle.judge_lasso.specs.LassoHeld.{lasso-held, s-place}
 use Rattle.judge_bound.proofs.States.{decides-le}
 use mir.Facts.{toZ-ofZ}
 use borrow.Author.Needs.{needs, sfits-of}

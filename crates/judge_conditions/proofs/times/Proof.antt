@@ -7,7 +7,7 @@ use mir.Val.{SFits, toZ}
 use mir.Facts.{toZ-ofZ, toZ-pos}
 use borrow.Author.Needs.{needs}
 use Rattle.whole.proofs.Size.{fits-abs}
-use Rattle.judge_conditions.proofs.ExcludedLaws.{times-small}
+use Rattle.judge_conditions.proofs.Totals.{times-small}
 use Rattle.judge_conditions.proofs.times.Statement.{statement}
 use Rattle.judge_conditions.proofs.times.Tie as tie
 

@@ -1,0 +1,69 @@
+-- `judge::exclusion_verdict` meets its contract: each return is one way through judging. Assumes nothing.
+use mathlib.Core.Path.{_∙_}
+use native.Mathlib.Omega.{arith}
+use borrow.Author.Tests.{not-true, not-false}
+use Rattle.verdict.specs.Judging.{certificates-judged}
+use Rattle.judge.proofs.JudgedKinds.{exclusion-refused, exclusion-accepted}
+use Rattle.judge.proofs.Sizes.{n-few, rows-in, exclusion-long}
+use borrow.Author.Needs.{needs}
+use Rattle.judge.proofs.exclusion_verdict.Statement.{statement}
+use Rattle.judge.proofs.exclusion_verdict.Tie as tie
+
+exclusion-requires : tie.Need-exclusion-requires
+exclusion-requires c κs =
+    let s = c .before .before in
+    let l = s .pre .0 in
+    (rows-in _ _ _ l, n-few _ _ _ l, exclusion-long _ _ _ l certificates-judged _ (s .pre .1))
+
+refused-requires : tie.Need-refused-requires
+refused-requires c κs = search needs
+
+returns : tie.Need-returns
+returns c =
+    let called = c .before .before in
+    let s = called .before .before .before in
+    let a = s .args in
+    λ lent.
+    let told =
+    exclusion-refused (a .loopbytes .now) (a .n) (a .m) (s .pre .0) (a .certificate .now) lent (s .pre .1) (called .exclusion .result) (called .exclusion .ensures)
+    (not-true (called .exclusion .result) (c .before .if1 .taken))
+    in
+    (c .refused .ensures ∙ told .0, told .1)
+
+u16-at-requires : tie.Need-u16-at-requires
+u16-at-requires c κs =
+    let s = c .before .before .before .before in
+    omega (arith, exclusion-long _ _ _ (s .pre .0) certificates-judged _ (s .pre .1))
+
+grade-requires : tie.Need-grade-requires
+grade-requires c κs = search needs
+
+accepted-requires : tie.Need-accepted-requires
+accepted-requires c κs = search needs
+
+returns-2 : tie.Need-returns-2
+returns-2 c =
+    let graded = c .before in
+    let read = graded .before .u16-at in
+    let passed = graded .before .before in
+    let called = passed .before in
+    let s = called .before .before .before in
+    let a = s .args in
+    λ lent.
+    let told =
+    exclusion-accepted (a .loopbytes .now) (a .n) (a .m) (s .pre .0) (a .certificate .now) lent (s .pre .1) (called .exclusion .result) (called .exclusion .ensures)
+    (not-false (called .exclusion .result) (passed .if1 .left))
+    in
+    (c .accepted .ensures ∙ rw (graded .grade .ensures, read .ensures .0) (told .0), told .1)
+
+pub exclusion-verdict-spec : {M : Type 1} → statement M
+exclusion-verdict-spec =
+    tie.close
+    (tie.spec
+    exclusion-requires
+    refused-requires
+    returns
+    u16-at-requires
+    grade-requires
+    accepted-requires
+    returns-2)

@@ -1,0 +1,69 @@
+-- `judge_exclusion::row_excluded` meets its contract. Assumes nothing.
+use Prim.Native.Nat.{_+_, _*_}
+use mathlib.Core.Path.{_≡_, _∙_}
+use lib.IntN.{pos, _*ℤ_}
+use native.Mathlib.Omega.{arith}
+use mir.Facts.{toZ-ofZ}
+use Rattle.whole.proofs.Size.{fits-abs}
+use Rattle.endian.specs.Numbers.{littleAt}
+use Rattle.judge_sums.specs.Places.{rightAt}
+use Rattle.judge_exclusion.proofs.ExcludedLaws.{row-fails, row-decided}
+use borrow.Author.Needs.{needs}
+use Rattle.judge_exclusion.proofs.row_excluded.Statement.{statement}
+use Rattle.judge_exclusion.proofs.row_excluded.Tie as tie
+
+along-requires : tie.Need-along-requires
+along-requires c κs = search needs
+
+u16-at-requires : tie.Need-u16-at-requires
+u16-at-requires c κs = search needs
+
+mul-i32-at : tie.Need-mul-i32-at
+mul-i32-at c = search needs
+
+add-i32-at : tie.Need-add-i32-at
+add-i32-at c = search needs
+
+i32-at-requires : tie.Need-i32-at-requires
+i32-at-requires c κs = search needs
+
+times-requires : tie.Need-times-requires
+times-requires c κs = search needs
+
+-- q·b
+right-is : (c : tie.After-times) → c .times .result ≡ pos (littleAt 2 (c .before .before .before .before .before .before .args .certificate .now) 6) *ℤ rightAt (c .before .before .before .before .before .before .args .rows .now) (c .before .before .before .before .before .before .args .row + 4 * c .before .before .before .before .before .before .args .n)
+unfolding rightAt
+right-is c =
+    let b = c .before .i32-at in
+    let q = c .before .before .u16-at in
+    c .times .ensures .0 ∙ rw (q .ensures .0, toZ-ofZ (fits-abs {z = b .result} (omega (arith, b .ensures .1))), b .ensures .0)
+
+returns : tie.Need-returns
+returns c =
+    let after = c .before .before .before in
+    let along = after .before .before .before in
+    let a = along .before .before .before .args in
+    row-fails (a .rows .now) (a .row) (a .n) (a .certificate .now) (along .along .result .direction) (along .along .result .step) (after .times .result)
+    (along .along .ensures .0) (along .along .ensures .2) (right-is after) (along .along .ensures .1) (c .if1 .taken)
+
+returns-2 : tie.Need-returns-2
+returns-2 c =
+    let after = c .before .before .before .before .before in
+    let along = after .before .before .before in
+    let a = along .before .before .before .args in
+    row-decided (a .rows .now) (a .row) (a .n) (a .certificate .now) (along .along .result .direction) (along .along .result .step) (after .times .result)
+    (along .along .ensures .0) (along .along .ensures .2) (right-is after) (along .along .ensures .1) (along .along .ensures .3)
+    (omega (arith, after .times .ensures .1)) (c .before .before .if1 .left)
+
+pub row-excluded-spec : {M : Type 1} → statement M
+row-excluded-spec =
+    tie.close
+    (tie.spec
+    along-requires
+    u16-at-requires
+    mul-i32-at
+    add-i32-at
+    i32-at-requires
+    times-requires
+    returns
+    returns-2)

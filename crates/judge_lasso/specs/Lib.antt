@@ -1,0 +1,2 @@
+pub mod LassoBy
+pub mod LassoHeld

@@ -1,0 +1,2 @@
+pub mod RankedBy
+pub mod RankingHeld
