@@ -10,9 +10,13 @@ use borrow.Author.Needs.{needs}
 use Rattle.record_check.proofs.check_loop.Statement.{statement}
 use Rattle.record_check.proofs.check_loop.Tie as tie
 
-right-frame : (c : tie.Else1) → Framed (c .before .before .before .before .args .bytes .now)
+-- the call's start, from where the frame has been tested
+abbrev start : tie.After-frame → tie.Start
+start c = c .before .before
+
+right-frame : (c : tie.Else1) → Framed (start (c .before .before) .args .bytes .now)
 unfolding loop-reader
-right-frame c = frame-passes (loop-reader (c .before .before .before .before .args .bytes .now) []) (c .before .before .frame .result) (c .before .before .frame .ensures) (c .if1 .left)
+right-frame c = let head = c .before .before in frame-passes (loop-reader (start head .args .bytes .now) []) (head .frame .result) (head .frame .ensures) (c .if1 .left)
 
 frame-requires : tie.Need-frame-requires
 frame-requires c κs = search needs
@@ -22,11 +26,10 @@ refused-requires c κs = search needs
 
 returns : tie.Need-returns
 returns c =
-    let called = c .before .before .before .frame in
-    let a = c .before .before .before .before .before .args in
-    let r = loop-reader (a .bytes .now) [] in
-    let told = called .ensures in
-    c .refused .ensures ∙ frame-only r (called .result) told ∙ frame-refuses r (called .result) told (c .before .if1 .taken)
+    let head = c .before .before .before in
+    let r = loop-reader (start head .args .bytes .now) [] in
+    let told = head .frame .ensures in
+    c .refused .ensures ∙ frame-only r (head .frame .result) told ∙ frame-refuses r (head .frame .result) told (c .before .if1 .taken)
 
 u16-at-requires : tie.Need-u16-at-requires
 u16-at-requires c κs = right-frame c .head
@@ -43,8 +46,9 @@ returns-2 c = search needs
 returns-3 : tie.Need-returns-3
 unfolding kind kind-number loop-reader
 returns-3 c =
-    let a = c .before .before .before .before .before .before .before .args in
-    c .refused2 .ensures ∙ unwanted (loop-reader (a .bytes .now) []) (right-frame (c .before .before .before)) (no-loop _ (λ e. c .before .match .rest .1 (c .before .before .u16-at .ensures .0 ∙ e)))
+    let framed = c .before .before .before in
+    let other = no-loop _ (λ e. c .before .match .rest .1 (c .before .before .u16-at .ensures .0 ∙ e)) in
+    c .refused2 .ensures ∙ unwanted (loop-reader (start (framed .before .before) .args .bytes .now) []) (right-frame framed) other
 
 pub check-loop-spec : {M : Type 1} → statement M
 check-loop-spec =

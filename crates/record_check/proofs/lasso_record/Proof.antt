@@ -17,7 +17,7 @@ use Rattle.record_check.proofs.lasso_record.Statement.{statement}
 use Rattle.record_check.proofs.lasso_record.Tie as tie
 
 -- where ms has been read: the call's start, and that there are bytes for ms
-start : tie.After-u16-at → tie.Start
+abbrev start : tie.After-u16-at → tie.Start
 start c = c .before .before .before
 
 module _ (c : tie.Else2) where
@@ -28,7 +28,6 @@ module _ (c : tie.Else2) where
   ms-fits = sym (c .before .rows-fit .ensures) ∙ not-false _ (c .if2 .left)
 
   small : (start read .args .n ≤ 16) × (start read .args .m ≤ 64) × (read .u16-at .result * (4 * start read .args .n + 6) ≤ 64 * 70)
-  unfolding start
   small =
       let both = arguments-most _ _ (start read .pre .arguments) in
       let wide : 4 * start read .args .n + 6 ≤ 70 = omega arith in
@@ -53,7 +52,6 @@ refused-requires-2 : tie.Need-refused-requires-2
 refused-requires-2 c κs = search needs
 
 returns-2 : tie.Need-returns-2
-unfolding start
 returns-2 c wanted known =
     let ms = c .before .before .before in
     let s = start ms in
@@ -63,44 +61,36 @@ returns-2 c wanted known =
     ∙ lasso-ms wanted (a .bytes .now) (a .n) (a .m) (s .pre .frame) (s .pre .numbered) known (s .pre .arguments) (ms .before .if1 .left) (ms .u16-at .result) (ms .u16-at .ensures .0) out
 
 mul-if3 : tie.Need-mul-if3
-unfolding start
 mul-if3 c = omega (arith, small c)
 
 add-if3 : tie.Need-add-if3
-unfolding start
 add-if3 c = omega (arith, small c)
 
 mul-if3-2 : tie.Need-mul-if3-2
-unfolding start
 mul-if3-2 c = omega (arith, small c)
 
 add-if3-2 : tie.Need-add-if3-2
-unfolding start
 add-if3-2 c = omega (arith, small c)
 
 mul-if3-3 : tie.Need-mul-if3-3
-unfolding start
 mul-if3-3 c = omega (arith, small c)
 
 add-if3-3 : tie.Need-add-if3-3
-unfolding start
 add-if3-3 c = omega (arith, small c)
 
 mul-if3-4 : tie.Need-mul-if3-4
-unfolding start
 mul-if3-4 c = omega (arith, small c)
 
 add-if3-4 : tie.Need-add-if3-4
-unfolding start
 add-if3-4 c = omega (arith, small c)
 
 refused-requires-3 : tie.Need-refused-requires-3
 refused-requires-3 c κs = search needs
 
 returns-3 : tie.Need-returns-3
-unfolding lengthOf start
+unfolding lengthOf
 returns-3 c wanted known =
-    let ms = c .before .before .before .before in
+    let ms = read (c .before .before) in
     let s = start ms in
     let a = s .args in
     c .refused3 .ensures
@@ -114,15 +104,16 @@ ends-requires : tie.Need-ends-requires
 ends-requires c κs = search needs
 
 returns-4 : tie.Need-returns-4
-unfolding lengthOf start
+unfolding lengthOf
 returns-4 c wanted known =
-    let ms = c .before .before .before .before .before in
+    let fit = c .before .before .before in
+    let ms = read fit in
     let s = start ms in
     let a = s .args in
     let at = c .before .lasso-fault in
     let told = at .ensures ∙ ap (λ fs. fault fs (a .bytes .now) 8) (sym (lasso-is (record { n = a .n; m = a .m; ms = ms .u16-at .result }))) in
     c .ends .ensures
-    ∙ lasso-values wanted (a .bytes .now) (a .n) (a .m) (s .pre .frame) (s .pre .numbered) known (s .pre .arguments) (ms .before .if1 .left) (ms .u16-at .result) (ms .u16-at .ensures .0) (ms-fits (c .before .before .before))
+    ∙ lasso-values wanted (a .bytes .now) (a .n) (a .m) (s .pre .frame) (s .pre .numbered) known (s .pre .arguments) (ms .before .if1 .left) (ms .u16-at .result) (ms .u16-at .ensures .0) (ms-fits fit)
     (omega (arith, c .before .before .if3 .left)) (at .result) told
 
 pub lasso-record-spec : {M : Type 1} → statement M
