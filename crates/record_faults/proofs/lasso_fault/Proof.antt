@@ -82,11 +82,13 @@ linear-fault-requires c κs = search needs
 
 returns-2 : tie.Need-returns-2
 returns-2 c =
-    let a = c .before .before .before .before .before .args in
-    let part = c .before .linear-fault in
+    let after-linear-fault = c .before in
+    let start = after-linear-fault .before .before .before .before in
+    let a = start .args in
+    let part = after-linear-fault .linear-fault in
     stops (a .bytes .now) (linear (a .n)) (weights (a .ms) ++ weights (3 * a .m + 3)) _ _ (part .result)
     (ap (λ k. a .place + a .ms * (4 * a .n + 4) + k) (sym (widths-linear (a .n)))) (part .ensures) (c .if2 .taken)
-    ∙ past-rows (c .before .before)
+    ∙ past-rows (after-linear-fault .before)
 
 mul-kept : tie.Need-mul-kept
 mul-kept c = search needs
@@ -102,11 +104,13 @@ weights-fault-requires c κs = search needs
 
 returns-3 : tie.Need-returns-3
 returns-3 c =
-    let a = c .before .before .before .before .before .before .before .args in
-    let part = c .before .weights-fault in
+    let after-weights-fault = c .before in
+    let start = after-weights-fault .before .before .before .before .before .before in
+    let a = start .args in
+    let part = after-weights-fault .weights-fault in
     stops (a .bytes .now) (weights (a .ms)) (weights (3 * a .m + 3)) _ _ (part .result)
     (ap (λ k. a .place + a .ms * (4 * a .n + 4) + (2 * a .n + 4) + k) (sym (widths-weights (a .ms)))) (part .ensures) (c .if3 .taken)
-    ∙ past-linear (c .before .before)
+    ∙ past-linear (after-weights-fault .before)
 
 mul-weights-fault : tie.Need-mul-weights-fault
 mul-weights-fault c = search needs

@@ -45,8 +45,10 @@ add-next-2 c = omega (arith, wide (c .before .before) (c .before .loop-test .tak
 returns : tie.Need-returns Inv-loop μ-loop
 unfolding rowsOf
 returns c =
-    let a = c .before .before .before .before .before .args in
-    let w = c .before .before .before .loop in
+    let at-loop = c .before .before .before in
+    let start = at-loop .before .before in
+    let a = start .args in
+    let w = at-loop .loop in
     let told = c .before .linear-fault .ensures ∙ ap (λ fs. fault fs (a .bytes .now) (w .at)) (sym (row-is (a .n))) in
     walk-here (rowsOf (a .n)) (4 * a .n + 4) (a .bytes .now) (a .place) (a .count) (row (a .n)) (λ k. refl) (widths-row (a .n)) (w .at) (w .left) (w .inv)
     (c .before .before .loop-test .taken) (c .before .linear-fault .result) told (c .if1 .taken)
@@ -60,8 +62,10 @@ loop-less c = search needs
 loop-again : tie.Need-loop-again Inv-loop μ-loop
 unfolding rowsOf
 loop-again c =
-    let a = c .before .before .before .before .before .args in
-    let w = c .before .before .before .loop in
+    let at-loop = c .before .before .before in
+    let start = at-loop .before .before in
+    let a = start .args in
+    let w = at-loop .loop in
     let told = c .before .linear-fault .ensures ∙ ap (λ fs. fault fs (a .bytes .now) (w .at)) (sym (row-is (a .n))) in
     walk-more (rowsOf (a .n)) (4 * a .n + 4) (a .bytes .now) (a .place) (a .count) (row (a .n)) (λ k. refl) (widths-row (a .n)) (w .at) (w .left) (w .inv)
     (c .before .before .loop-test .taken) (c .before .linear-fault .result) told (c .if1 .left)

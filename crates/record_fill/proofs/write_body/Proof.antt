@@ -60,32 +60,40 @@ same-length c = search needs
 
 returns : tie.Need-returns
 returns c =
-    let a = c .before .before .before .before .before .before .args in
-    c .before .before .write-loop .ensures ∙ ap (sets (a .body .now) 0) (bytes-1 (a .kind) (record { n = a .n; m = a .m; ms = a .ms }) (a .values .now) (c .before .before .before .before .match .keys1))
+    let at-match = c .before .before .before .before in
+    let start = at-match .before .before in
+    let a = start .args in
+    c .before .before .write-loop .ensures ∙ ap (sets (a .body .now) 0) (bytes-1 (a .kind) (record { n = a .n; m = a .m; ms = a .ms }) (a .values .now) (at-match .match .keys1))
 
 same-length-2 : tie.Need-same-length-2
 same-length-2 c = search needs
 
 returns-2 : tie.Need-returns-2
 returns-2 c =
-    let a = c .before .before .before .before .before .before .args in
-    c .before .before .write-u16s .ensures ∙ ap (sets (a .body .now) 0) (bytes-2 (a .kind) (record { n = a .n; m = a .m; ms = a .ms }) (a .values .now) (c .before .before .before .before .match .keys2))
+    let at-match = c .before .before .before .before in
+    let start = at-match .before .before in
+    let a = start .args in
+    c .before .before .write-u16s .ensures ∙ ap (sets (a .body .now) 0) (bytes-2 (a .kind) (record { n = a .n; m = a .m; ms = a .ms }) (a .values .now) (at-match .match .keys2))
 
 same-length-3 : tie.Need-same-length-3
 same-length-3 c = search needs
 
 returns-3 : tie.Need-returns-3
 returns-3 c =
-    let a = c .before .before .before .before .before .before .args in
-    c .before .before .write-exclusion .ensures ∙ ap (sets (a .body .now) 0) (bytes-3 (a .kind) (record { n = a .n; m = a .m; ms = a .ms }) (a .values .now) (c .before .before .before .before .match .keys3))
+    let at-match = c .before .before .before .before in
+    let start = at-match .before .before in
+    let a = start .args in
+    c .before .before .write-exclusion .ensures ∙ ap (sets (a .body .now) 0) (bytes-3 (a .kind) (record { n = a .n; m = a .m; ms = a .ms }) (a .values .now) (at-match .match .keys3))
 
 same-length-4 : tie.Need-same-length-4
 same-length-4 c = search needs
 
 returns-4 : tie.Need-returns-4
 returns-4 c =
-    let a = c .before .before .before .before .before .before .args in
-    c .before .before .write-lasso .ensures ∙ ap (sets (a .body .now) 0) (bytes-4 (a .kind) (record { n = a .n; m = a .m; ms = a .ms }) (a .values .now) (c .before .before .before .before .match .keys4))
+    let at-match = c .before .before .before .before in
+    let start = at-match .before .before in
+    let a = start .args in
+    c .before .before .write-lasso .ensures ∙ ap (sets (a .body .now) 0) (bytes-4 (a .kind) (record { n = a .n; m = a .m; ms = a .ms }) (a .values .now) (at-match .match .keys4))
 
 returns-5 : tie.Need-returns-5
 returns-5 c =

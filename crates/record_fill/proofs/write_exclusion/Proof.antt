@@ -27,8 +27,9 @@ mul-write-i32s c = search needs
 write-i32s-requires : tie.Need-write-i32s-requires
 unfolding direction
 write-i32s-requires c κs =
-    let a = c .before .before .before .before .before .before .args in
-    (search needs, search needs, held-run i32 direction (3 * a .n) (drop 1 (a .values .now)) refl (fit (c .before .before .before .before .before .before) .1))
+    let start = c .before .before .before .before .before .before in
+    let a = start .args in
+    (search needs, search needs, held-run i32 direction (3 * a .n) (drop 1 (a .values .now)) refl (fit (start) .1))
 
 same-length : tie.Need-same-length
 same-length c = search needs
@@ -36,9 +37,12 @@ same-length c = search needs
 returns : tie.Need-returns
 unfolding widths width scale direction
 returns c =
-    let a = c .before .before .before .before .before .before .before .before .before .args in
-    let first = c .before .before .before .before .before .before .write-u16s in
-    let second = c .before .before .write-i32s in
+    let after-write-i32s = c .before .before in
+    let after-write-u16s = after-write-i32s .before .before .before .before in
+    let start = after-write-u16s .before .before .before in
+    let a = start .args in
+    let first = after-write-u16s .write-u16s in
+    let second = after-write-i32s .write-i32s in
     let zs = a .values .now in
     write-both (scale ∷ []) (replicate (3 * a .n) direction) zs 0 1 refl (omega arith) 0 2 (a .body .now) (first .last .0) refl
     (first .ensures ∙ ap (sets (a .body .now) 0) (bytes-run u16 scale 1 zs refl))

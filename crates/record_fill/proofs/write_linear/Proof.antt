@@ -42,8 +42,9 @@ add-write-i32s-2 c = search needs
 write-i32s-requires : tie.Need-write-i32s-requires
 unfolding right-side
 write-i32s-requires c κs =
-    let a = c .before .before .before .before .before .before .args in
-    (search needs, search needs, held-run i32 right-side 1 (drop (a .index + a .count) (a .values .now)) refl (fit (c .before .before .before .before .before .before) .1))
+    let start = c .before .before .before .before .before .before in
+    let a = start .args in
+    (search needs, search needs, held-run i32 right-side 1 (drop (a .index + a .count) (a .values .now)) refl (fit (start) .1))
 
 same-length : tie.Need-same-length
 same-length c = search needs
@@ -51,9 +52,12 @@ same-length c = search needs
 returns : tie.Need-returns
 unfolding linear width entry right-side
 returns c =
-    let a = c .before .before .before .before .before .before .before .before .before .args in
-    let first = c .before .before .before .before .before .before .write-i16s in
-    let second = c .before .before .write-i32s in
+    let after-write-i32s = c .before .before in
+    let after-write-i16s = after-write-i32s .before .before .before .before in
+    let start = after-write-i16s .before .before .before in
+    let a = start .args in
+    let first = after-write-i16s .write-i16s in
+    let second = after-write-i32s .write-i32s in
     let place = a .place + 2 * a .count in
     let zs = a .values .now in
     write-both (replicate (a .count) entry) (right-side ∷ []) zs (a .index) (a .index + a .count) (omega (arith, length-replicate (a .count) entry)) (omega (arith, length-replicate (a .count) entry))

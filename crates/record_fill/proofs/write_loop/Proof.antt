@@ -27,10 +27,14 @@ same-length c = search needs
 
 returns : tie.Need-returns
 returns c =
-    let a = c .before .before .before .before .before .before .before .before .before .before .before .before .before .args in
-    let n-put = c .before .before .before .before .before .before .before .before .before .before .put-u16 in
-    let m-put = c .before .before .before .before .before .before .put-u162 in
-    let rows = c .before .before .write-rows in
+    let after-write-rows = c .before .before in
+    let after-put-u162 = after-write-rows .before .before .before .before in
+    let after-put-u16 = after-put-u162 .before .before .before .before in
+    let start = after-put-u16 .before .before .before in
+    let a = start .args in
+    let n-put = after-put-u16 .put-u16 in
+    let m-put = after-put-u162 .put-u162 in
+    let rows = after-write-rows .write-rows in
     let second =
     sets-both (n-put .last .0) 2 4 (digits 2 (a .m)) (bytesOf (rowsOf (a .n) (a .m)) (a .values .now))
     (m-put .ensures ∙ put-is (n-put .last .0) (digits 2 (a .m)) 2 2 (length-digits 2 (a .m)) (omega (arith, n-put .kept)))

@@ -42,22 +42,34 @@ write-linear-requires c κs =
     (omega (arith, here .0), omega (arith, here .1), rw (row-is (a .n)) at (row-fits (a .n) (a .values .now) (a .index) (a .count) (a .body .now) (a .place) (w .body) (w .i) (w .at) (w .left) (w .inv) some (here .0)))
 
 mul-i : tie.Need-mul-i Inv-loop μ-loop
-mul-i c = omega (arith, wide (c .before .before .before .before .before) (c .before .before .before .before .loop-test .taken))
+mul-i c =
+    let at-test = c .before .before .before .before in
+    omega (arith, wide (at-test .before) (at-test .loop-test .taken))
 
 add-i : tie.Need-add-i Inv-loop μ-loop
-add-i c = omega (arith, wide (c .before .before .before .before .before) (c .before .before .before .before .loop-test .taken))
+add-i c =
+    let at-test = c .before .before .before .before in
+    omega (arith, wide (at-test .before) (at-test .loop-test .taken))
 
 add-i-2 : tie.Need-add-i-2 Inv-loop μ-loop
-add-i-2 c = omega (arith, wide (c .before .before .before .before .before) (c .before .before .before .before .loop-test .taken))
+add-i-2 c =
+    let at-test = c .before .before .before .before in
+    omega (arith, wide (at-test .before) (at-test .loop-test .taken))
 
 mul-at : tie.Need-mul-at Inv-loop μ-loop
-mul-at c = omega (arith, wide (c .before .before .before .before .before) (c .before .before .before .before .loop-test .taken))
+mul-at c =
+    let at-test = c .before .before .before .before in
+    omega (arith, wide (at-test .before) (at-test .loop-test .taken))
 
 add-at : tie.Need-add-at Inv-loop μ-loop
-add-at c = omega (arith, wide (c .before .before .before .before .before) (c .before .before .before .before .loop-test .taken))
+add-at c =
+    let at-test = c .before .before .before .before in
+    omega (arith, wide (at-test .before) (at-test .loop-test .taken))
 
 add-at-2 : tie.Need-add-at-2 Inv-loop μ-loop
-add-at-2 c = omega (arith, wide (c .before .before .before .before .before) (c .before .before .before .before .loop-test .taken))
+add-at-2 c =
+    let at-test = c .before .before .before .before in
+    omega (arith, wide (at-test .before) (at-test .loop-test .taken))
 
 sub-left : tie.Need-sub-left Inv-loop μ-loop
 sub-left c = search needs
@@ -67,11 +79,14 @@ loop-less c = search needs
 
 loop-again : tie.Need-loop-again Inv-loop μ-loop
 loop-again c =
-    let a = c .before .before .before .before .before .before .before .args in
-    let w = c .before .before .before .before .before .loop in
-    let some = c .before .before .before .before .loop-test .taken in
+    let at-test = c .before .before .before .before in
+    let at-loop = at-test .before in
+    let start = at-loop .before .before in
+    let a = start .args in
+    let w = at-loop .loop in
+    let some = at-test .loop-test .taken in
     let done = c .before .before .write-linear .ensures ∙ ap (λ fs. sets (w .body) (w .at) (bytesOf fs (drop (w .i) (a .values .now)))) (sym (row-is (a .n))) in
-    rw done (rows-more (a .n) (a .values .now) (a .index) (a .count) (a .body .now) (a .place) (w .body) (w .i) (w .at) (w .left) (w .inv) some (wide (c .before .before .before .before .before) some .0))
+    rw done (rows-more (a .n) (a .values .now) (a .index) (a .count) (a .body .now) (a .place) (w .body) (w .i) (w .at) (w .left) (w .inv) some (wide (at-loop) some .0))
 
 same-length : tie.Need-same-length Inv-loop μ-loop
 same-length c = search needs

@@ -51,10 +51,14 @@ put-u16-requires c κs =
     rw (toZ-ofZ (sfits-of (c .put-u16-arg2 .given))) (there (c .before .before .before) (c .before .before .loop-test .taken) .1, h .1)
 
 add-i : tie.Need-add-i Inv-loop μ-loop
-add-i c = omega (arith, there (c .before .before .before .before .before .before) (c .before .before .before .before .before .loop-test .taken))
+add-i c =
+    let at-test = c .before .before .before .before .before in
+    omega (arith, there (at-test .before) (at-test .loop-test .taken))
 
 add-at : tie.Need-add-at Inv-loop μ-loop
-add-at c = omega (arith, there (c .before .before .before .before .before .before) (c .before .before .before .before .before .loop-test .taken))
+add-at c =
+    let at-test = c .before .before .before .before .before in
+    omega (arith, there (at-test .before) (at-test .loop-test .taken))
 
 sub-left : tie.Need-sub-left Inv-loop μ-loop
 sub-left c = search needs
@@ -65,12 +69,15 @@ loop-less c = search needs
 loop-again : tie.Need-loop-again Inv-loop μ-loop
 unfolding stored width
 loop-again c =
-    let a = c .before .before .before .before .before .before .before .before .args in
-    let w = c .before .before .before .before .before .before .loop in
-    let some = c .before .before .before .before .before .loop-test .taken in
+    let after-put-u16-arg2 = c .before .before .before in
+    let at-test = after-put-u16-arg2 .before .before in
+    let start = at-test .before .before .before in
+    let a = start .args in
+    let w = at-test .before .loop in
+    let some = at-test .loop-test .taken in
     let z = getD (a .values .now) (w .i) (pos 0) in
-    let room = there (c .before .before .before .before .before .before) some in
-    let put = rw (toZ-ofZ {w = w64} {z = z} (sfits-of (c .before .before .before .put-u16-arg2 .given))) at (c .before .before .put-u16 .ensures) in
+    let room = there (at-test .before) some in
+    let put = rw (toZ-ofZ {w = w64} {z = z} (sfits-of (after-put-u16-arg2 .put-u16-arg2 .given))) at (c .before .before .put-u16 .ensures) in
     rw (put ∙ put-is (w .body) (stored u16 z) (w .at) 2 (length-stored u16 z) (room .1))
     (storing-more u16 2 (a .values .now) (a .index) (a .count) (a .body .now) (a .place) (w .body) (w .i) (w .at) (w .left) (w .inv) some (room .0) refl)
 

@@ -56,10 +56,13 @@ refused-requires-3 c κs = search needs
 returns-3 : tie.Need-returns-3
 unfolding writer kind kindOf kinds-written is-lasso ms-given rows _to_
 returns-3 c =
-    let a = c .before .before .before .before .before .before .before .args in
-    let fit = sym (c .before .before .before .before .before .before .arguments-fit .ensures) ∙ not-false _ (c .before .before .before .before .before .if1 .left) in
+    let else2 = c .before .before .before .before in
+    let else1 = else2 .before in
+    let start = else1 .before .before in
+    let a = start .args in
+    let fit = sym (else1 .before .arguments-fit .ensures) ∙ not-false _ (else1 .if1 .left) in
     let out = rw (toZ-ofZ (sfits-of (c .before .before .before .between-arg .given))) at (sym (c .before .before .between .ensures) ∙ not-true _ (c .before .if3 .taken)) in
-    c .refused3 .ensures ∙ bad-ms (writer 4 (a .n) (a .m) (a .values .now) []) refl fit refl (c .before .before .before .before .if2 .left) out
+    c .refused3 .ensures ∙ bad-ms (writer 4 (a .n) (a .m) (a .values .now) []) refl fit refl (else2 .if2 .left) out
 
 shared-slice-copy-out-t8 : tie.Need-shared-slice-copy-out-t8
 shared-slice-copy-out-t8 c = search needs
@@ -72,9 +75,12 @@ cast-t6 c =
 returns-4 : tie.Need-returns-4
 unfolding writer kind kindOf kinds-written is-lasso ms-given
 returns-4 c =
-    let a = c .before .before .before .before .before .before .before .args in
-    let fit = sym (c .before .before .before .before .before .before .arguments-fit .ensures) ∙ not-false _ (c .before .before .before .before .before .if1 .left) in
-    rw (toZ-ofZ (sfits-of (c .before .before .before .between-arg .given))) (lasso-counted (writer 4 (a .n) (a .m) (a .values .now) []) refl fit refl (c .before .before .before .before .if2 .left) (ms-fits (c .before)))
+    let else2 = c .before .before .before .before in
+    let else1 = else2 .before in
+    let start = else1 .before .before in
+    let a = start .args in
+    let fit = sym (else1 .before .arguments-fit .ensures) ∙ not-false _ (else1 .if1 .left) in
+    rw (toZ-ofZ (sfits-of (c .before .before .before .between-arg .given))) (lasso-counted (writer 4 (a .n) (a .m) (a .values .now) []) refl fit refl (else2 .if2 .left) (ms-fits (c .before)))
 
 pub lasso-counts-spec : {M : Type 1} → statement M
 lasso-counts-spec =

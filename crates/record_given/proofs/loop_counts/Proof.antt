@@ -25,8 +25,10 @@ refused-requires-2 c κs = search needs
 
 returns-2 : tie.Need-returns-2
 returns-2 c =
-    let a = c .before .before .before .before .before .args in
-    let n-fits = sym (c .before .before .before .before .variables-fit .ensures) ∙ not-false _ (c .before .before .before .if1 .left) in
+    let after-variables-fit = c .before .before .before .before in
+    let start = after-variables-fit .before in
+    let a = start .args in
+    let n-fits = sym (after-variables-fit .variables-fit .ensures) ∙ not-false _ (c .before .before .before .if1 .left) in
     λ zs. c .refused2 .ensures ∙ loop-m (a .n) (a .m) zs n-fits (sym (c .before .before .rows-fit .ensures) ∙ not-true _ (c .before .if2 .taken))
 
 refused-requires-3 : tie.Need-refused-requires-3
@@ -34,8 +36,10 @@ refused-requires-3 c κs = search needs
 
 returns-3 : tie.Need-returns-3
 returns-3 c =
-    let a = c .before .before .before .before .before .args in
-    let n-fits = sym (c .before .before .before .before .variables-fit .ensures) ∙ not-false _ (c .before .before .before .if1 .left) in
+    let after-variables-fit = c .before .before .before .before in
+    let start = after-variables-fit .before in
+    let a = start .args in
+    let n-fits = sym (after-variables-fit .variables-fit .ensures) ∙ not-false _ (c .before .before .before .if1 .left) in
     λ zs. c .refused3 .ensures ∙ loop-counted (a .n) (a .m) zs n-fits (sym (c .before .before .rows-fit .ensures) ∙ not-false _ (c .before .if2 .left))
 
 pub loop-counts-spec : {M : Type 1} → statement M

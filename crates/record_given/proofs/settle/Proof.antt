@@ -91,16 +91,19 @@ refused-requires-2 c κs = search needs
 returns-3 : tie.Need-returns-3
 unfolding kind writer
 returns-3 c =
-    let e = c .before .before .before .before .before .before in
+    let after-values-fault = c .before .before .before in
+    let e = after-values-fault .before .before .before in
     c .refused2 .ensures
-    ∙ bad-value (of e) (told e) (length-is (c .before .before .before .before)) (c .before .before .before .values-fault .result) (fault-is (c .before .before .before)) (rw (c .before .before .record-length .ensures ∙ stated-is e) at (c .before .if3 .taken))
+    ∙ bad-value (of e) (told e) (length-is (after-values-fault .before)) (after-values-fault .values-fault .result) (fault-is (after-values-fault)) (rw (c .before .before .record-length .ensures ∙ stated-is e) at (c .before .if3 .taken))
 
 returns-4 : tie.Need-returns-4
 unfolding kind writer
 returns-4 c =
-    let e = c .before .before .before .before .before in
-    counted-is (of e) (c .before .before .before .before .before .before .before .counts .result) (c .before .before .before .before .before .before .before .counts .ensures) (told e)
-    ∙ all-settled (of e) (told e) (length-is (c .before .before .before)) (c .before .before .values-fault .result) (fault-is (c .before .before)) (rw (c .before .record-length .ensures ∙ stated-is e) at (c .if3 .left))
+    let after-values-fault = c .before .before in
+    let after-counts = after-values-fault .before .before .before .before .before in
+    let e = after-values-fault .before .before .before in
+    counted-is (of e) (after-counts .counts .result) (after-counts .counts .ensures) (told e)
+    ∙ all-settled (of e) (told e) (length-is (after-values-fault .before)) (after-values-fault .values-fault .result) (fault-is (after-values-fault)) (rw (c .before .record-length .ensures ∙ stated-is e) at (c .if3 .left))
 
 pub settle-spec : {M : Type 1} → statement M
 settle-spec =

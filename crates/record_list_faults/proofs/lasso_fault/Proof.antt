@@ -32,19 +32,23 @@ past-rows c =
 -- and s and s0
 past-linear : (c : tie.Else3) → (let a = c .before .before .before .before .before .before .args in list-fault (weights (a .ms) ++ weights (3 * a .m + 3)) (a .values .now) (1 + a .ms * (2 * a .n + 1) + (a .n + 1)) (8 + a .ms * (4 * a .n + 4) + (2 * a .n + 4)) ≡ list-fault ((row-count ∷ []) ++ (rowsOf (a .n) (a .ms) ++ (linear (a .n) ++ (weights (a .ms) ++ weights (3 * a .m + 3))))) (a .values .now) 0 6)
 past-linear c =
-    let a = c .before .before .before .before .before .before .args in
-    let part = c .before .linear-fault in
+    let after-linear-fault = c .before in
+    let start = after-linear-fault .before .before .before .before .before in
+    let a = start .args in
+    let part = after-linear-fault .linear-fault in
     list-goes-on (a .values .now) (linear (a .n)) (weights (a .ms) ++ weights (3 * a .m + 3)) _ _ _ _ (part .result) (ap (λ k. 8 + a .ms * (4 * a .n + 4) + k) (sym (widths-linear (a .n)))) (ap (λ k. 1 + a .ms * (2 * a .n + 1) + k) (sym (length-linear (a .n)))) (part .ensures) (c .if3 .left)
-    ∙ past-rows (c .before .before)
+    ∙ past-rows (after-linear-fault .before)
 
 -- and k and T
 past-start : (c : tie.Else4)
     → (let a = c .before .before .before .before .before .before .before .before .args in list-fault (weights (3 * a .m + 3)) (a .values .now) (1 + a .ms * (2 * a .n + 1) + (a .n + 1) + (1 + a .ms)) (8 + a .ms * (4 * a .n + 4) + (2 * a .n + 4) + (2 + 2 * a .ms)) ≡ list-fault ((row-count ∷ []) ++ (rowsOf (a .n) (a .ms) ++ (linear (a .n) ++ (weights (a .ms) ++ weights (3 * a .m + 3))))) (a .values .now) 0 6)
 past-start c =
-    let a = c .before .before .before .before .before .before .before .before .args in
-    let part = c .before .weights-fault in
+    let after-weights-fault = c .before in
+    let start = after-weights-fault .before .before .before .before .before .before .before in
+    let a = start .args in
+    let part = after-weights-fault .weights-fault in
     list-goes-on (a .values .now) (weights (a .ms)) (weights (3 * a .m + 3)) _ _ _ _ (part .result) (ap (λ k. 8 + a .ms * (4 * a .n + 4) + (2 * a .n + 4) + k) (sym (widths-weights (a .ms)))) (ap (λ k. 1 + a .ms * (2 * a .n + 1) + (a .n + 1) + k) (sym (length-weights (a .ms)))) (part .ensures) (c .if4 .left)
-    ∙ past-linear (c .before .before)
+    ∙ past-linear (after-weights-fault .before)
 
 run-fault-requires : tie.Need-run-fault-requires
 run-fault-requires c κs = search needs
@@ -104,10 +108,12 @@ linear-fault-requires c κs = search needs
 
 returns-3 : tie.Need-returns-3
 returns-3 c =
-    let a = c .before .before .before .before .before .before .args in
-    let part = c .before .linear-fault in
+    let after-linear-fault = c .before in
+    let start = after-linear-fault .before .before .before .before .before in
+    let a = start .args in
+    let part = after-linear-fault .linear-fault in
     list-stops (a .values .now) (linear (a .n)) (weights (a .ms) ++ weights (3 * a .m + 3)) _ _ _ (part .result) (ap (λ k. 8 + a .ms * (4 * a .n + 4) + k) (sym (widths-linear (a .n)))) (part .ensures) (c .if3 .taken)
-    ∙ past-rows (c .before .before)
+    ∙ past-rows (after-linear-fault .before)
 
 mul-kept : tie.Need-mul-kept
 mul-kept c = search needs
@@ -129,10 +135,12 @@ weights-fault-requires c κs = search needs
 
 returns-4 : tie.Need-returns-4
 returns-4 c =
-    let a = c .before .before .before .before .before .before .before .before .args in
-    let part = c .before .weights-fault in
+    let after-weights-fault = c .before in
+    let start = after-weights-fault .before .before .before .before .before .before .before in
+    let a = start .args in
+    let part = after-weights-fault .weights-fault in
     list-stops (a .values .now) (weights (a .ms)) (weights (3 * a .m + 3)) _ _ _ (part .result) (ap (λ k. 8 + a .ms * (4 * a .n + 4) + (2 * a .n + 4) + k) (sym (widths-weights (a .ms)))) (part .ensures) (c .if4 .taken)
-    ∙ past-linear (c .before .before)
+    ∙ past-linear (after-weights-fault .before)
 
 add-weights-fault-3 : tie.Need-add-weights-fault-3
 add-weights-fault-3 c = search needs

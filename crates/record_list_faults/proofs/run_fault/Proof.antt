@@ -43,9 +43,10 @@ between-requires c κs = tt
 
 returns : tie.Need-returns Inv-loop μ-loop
 returns c =
-    let s = c .before .before .before .before .before in
+    let at-loop = c .before .before .before .before in
+    let s = at-loop .before in
     let a = s .args in
-    let w = c .before .before .before .before .loop in
+    let w = at-loop .loop in
     let out : within (record { least = a .least; most = a .most }) (getD (a .values .now) (w .i) (pos 0)) ≡ false =
     rw (toZ-ofZ (s .fits .least), toZ-ofZ (s .fits .most), toZ-ofZ (sfits-of (c .before .before .between-arg .given))) at (sym (c .before .between .ensures) ∙ not-true _ (c .if1 .taken)) in
     list-run-here (record { least = a .least; most = a .most }) (a .wide) (a .values .now) (a .index) (a .place) (a .count) (w .i) (w .at) (w .left)
@@ -55,7 +56,10 @@ add-i : tie.Need-add-i Inv-loop μ-loop
 add-i c = omega (arith, c .before .before .before .before .loop .inv .reach-list)
 
 add-at : tie.Need-add-at Inv-loop μ-loop
-add-at c = omega (arith, c .before .before .before .before .loop .inv .reach, mul-le-mul-right (c .before .before .before .before .before .args .wide) (c .before .before .before .loop-test .taken))
+add-at c =
+    let at-loop = c .before .before .before .before in
+    let start = at-loop .before in
+    omega (arith, at-loop .loop .inv .reach, mul-le-mul-right (start .args .wide) (c .before .before .before .loop-test .taken))
 
 sub-left : tie.Need-sub-left Inv-loop μ-loop
 sub-left c = search needs
@@ -65,9 +69,10 @@ loop-less c = search needs
 
 loop-again : tie.Need-loop-again Inv-loop μ-loop
 loop-again c =
-    let s = c .before .before .before .before .before in
+    let at-loop = c .before .before .before .before in
+    let s = at-loop .before in
     let a = s .args in
-    let w = c .before .before .before .before .loop in
+    let w = at-loop .loop in
     let fit = rw (toZ-ofZ {w = w64} {z = getD (a .values .now) (w .i) (pos 0)} (sfits-of (c .before .before .between-arg .given))) at (sym (c .before .between .ensures) ∙ not-false _ (c .if1 .left)) in
     list-run-more _ (a .wide) (a .values .now) (a .index) (a .place) (a .count) (w .i) (w .at) (w .left) (w .inv) (c .before .before .before .loop-test .taken) (omega (arith, w .inv .reach-list)) fit
 

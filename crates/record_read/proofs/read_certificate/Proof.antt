@@ -23,8 +23,10 @@ same-length c = search needs
 returns : tie.Need-returns
 unfolding certificate-reader
 returns c =
-    let a = c .before .before .before .before .before .args in
-    let found = c .before .before .before .check-certificate in
+    let after-check-certificate = c .before .before .before in
+    let start = after-check-certificate .before .before in
+    let a = start .args in
+    let found = after-check-certificate .check-certificate in
     let way = unpack-reads (certificate-reader (a .bytes .now) (a .n) (a .m) (a .values .now)) (a .values .now) refl (found .result) (found .ensures ∙ certificate-any-room (a .bytes .now) (a .n) (a .m) (a .values .now)) in
     (c .before .unpack .ensures .0 ∙ way .0, c .before .unpack .ensures .1 ∙ way .1)
 

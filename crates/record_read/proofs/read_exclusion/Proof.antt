@@ -27,8 +27,10 @@ same-length c = search needs
 returns : tie.Need-returns
 unfolding widths width scale direction
 returns c =
-    let a = c .before .before .before .before .before .before .before .args in
-    let first = c .before .before .before .before .read-u16s in
+    let after-read-u16s = c .before .before .before .before in
+    let start = after-read-u16s .before .before .before in
+    let a = start .args in
+    let first = after-read-u16s .read-u16s in
     let second = c .before .read-i32s in
     let bytes = a .bytes .now in
     read-both (scale ∷ []) (replicate (3 * a .n) direction) bytes 6 8 0 1 (a .values .now) (first .last .1 .1 .1 .0) refl refl

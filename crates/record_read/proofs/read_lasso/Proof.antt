@@ -81,13 +81,17 @@ same-length c = search needs
 returns : tie.Need-returns
 unfolding widths width row-count
 returns c =
-    let a = c .before .before .before .before .before .before .before .before .before .before .before .before .before .args in
+    let after-read-linear = c .before .before .before .before in
+    let after-read-rows = after-read-linear .before .before .before in
+    let after-read-u16s = after-read-rows .before .before .before in
+    let start = after-read-u16s .before .before .before in
+    let a = start .args in
     let bytes = a .bytes .now in
     let place = 8 + a .ms * (4 * a .n + 4) in
     let index = 1 + a .ms * (2 * a .n + 1) in
-    let count = c .before .before .before .before .before .before .before .before .before .before .read-u16s in
-    let stem = c .before .before .before .before .before .before .before .read-rows in
-    let invariant = c .before .before .before .before .read-linear in
+    let count = after-read-u16s .read-u16s in
+    let stem = after-read-rows .read-rows in
+    let invariant = after-read-linear .read-linear in
     let rest = c .before .read-u16s2 in
     let last = weights (a .ms) ++ weights (3 * a .m + 3) in
     let from-invariant =

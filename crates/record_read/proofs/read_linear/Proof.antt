@@ -36,8 +36,10 @@ same-length c = search needs
 returns : tie.Need-returns
 unfolding linear width entry right-side
 returns c =
-    let a = c .before .before .before .before .before .before .before .args in
-    let first = c .before .before .before .before .read-i16s in
+    let after-read-i16s = c .before .before .before .before in
+    let start = after-read-i16s .before .before .before in
+    let a = start .args in
+    let first = after-read-i16s .read-i16s in
     let second = c .before .read-i32s in
     let place = a .place + 2 * a .count in
     let bytes = a .bytes .now in

@@ -23,8 +23,10 @@ same-length c = search needs
 returns : tie.Need-returns
 unfolding loop-reader
 returns c =
-    let a = c .before .before .before .before .before .args in
-    let found = c .before .before .before .check-loop in
+    let after-check-loop = c .before .before .before in
+    let start = after-check-loop .before .before in
+    let a = start .args in
+    let found = after-check-loop .check-loop in
     let way = unpack-reads (loop-reader (a .bytes .now) (a .values .now)) (a .values .now) refl (found .result) (found .ensures ∙ loop-any-room (a .bytes .now) (a .values .now)) in
     (c .before .unpack .ensures .0 ∙ way .0, c .before .unpack .ensures .1 ∙ way .1)
 

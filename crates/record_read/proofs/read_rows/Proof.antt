@@ -65,8 +65,10 @@ loop-less c = search needs
 loop-again : tie.Need-loop-again Inv-loop μ-loop
 unfolding rowsOf
 loop-again c =
-    let a = c .before .before .before .before .before .before .args in
-    let w = c .before .before .before .before .loop in
+    let at-loop = c .before .before .before .before in
+    let start = at-loop .before .before in
+    let a = start .args in
+    let w = at-loop .loop in
     let part = held (row (a .n)) (drop (w .at) (a .bytes .now)) in
     let done = c .before .read-linear .ensures ∙ ap (λ fs. sets (w .values) (w .i) (held fs (drop (w .at) (a .bytes .now)))) (sym (row-is (a .n))) in
     rw done

@@ -26,9 +26,11 @@ refused-requires-2 c κs = search needs
 
 returns-2 : tie.Need-returns-2
 returns-2 c =
-    let a = c .before .before .before .before .before .before .args in
+    let else1 = c .before .before .before in
+    let start = else1 .before .before .before in
+    let a = start .args in
     let count = c .before .before .value-count in
-    let way = no-places (a .bytes .now) (a .found) (a .values .now) (c .before .before .before .if1 .left) (count .result) (count .ensures) (c .before .if2 .taken) in
+    let way = no-places (a .bytes .now) (a .found) (a .values .now) (else1 .if1 .left) (count .result) (count .ensures) (c .before .if2 .taken) in
     (c .refused2 .ensures ∙ way .0, way .1)
 
 read-list-requires : tie.Need-read-list-requires
@@ -39,18 +41,24 @@ same-length c = search needs
 
 returns-3 : tie.Need-returns-3
 returns-3 c =
-    let a = c .before .before .before .before .before .before .before .before .before .args in
-    let count = c .before .before .before .before .before .value-count in
-    unpacked-loop (a .bytes .now) (a .found) (a .values .now) (c .before .before .before .before .before .before .if1 .left) (count .result) (count .ensures) (c .before .before .before .before .if2 .left) _ (c .before .before .read-list .ensures) (c .if3 .taken)
+    let else2 = c .before .before .before .before in
+    let after-value-count = else2 .before in
+    let start = after-value-count .before .before .before .before in
+    let a = start .args in
+    let count = after-value-count .value-count in
+    unpacked-loop (a .bytes .now) (a .found) (a .values .now) (after-value-count .before .if1 .left) (count .result) (count .ensures) (else2 .if2 .left) _ (c .before .before .read-list .ensures) (c .if3 .taken)
 
 same-length-2 : tie.Need-same-length-2
 same-length-2 c = search needs
 
 returns-4 : tie.Need-returns-4
 returns-4 c =
-    let a = c .before .before .before .before .before .before .before .before .before .args in
-    let count = c .before .before .before .before .before .value-count in
-    unpacked-certificate (a .bytes .now) (a .found) (a .values .now) (c .before .before .before .before .before .before .if1 .left) (count .result) (count .ensures) (c .before .before .before .before .if2 .left) _ (c .before .before .read-list .ensures) (c .if3 .left)
+    let else2 = c .before .before .before .before in
+    let after-value-count = else2 .before in
+    let start = after-value-count .before .before .before .before in
+    let a = start .args in
+    let count = after-value-count .value-count in
+    unpacked-certificate (a .bytes .now) (a .found) (a .values .now) (after-value-count .before .if1 .left) (count .result) (count .ensures) (else2 .if2 .left) _ (c .before .before .read-list .ensures) (c .if3 .left)
 
 pub unpack-spec : {M : Type 1} → statement M
 unpack-spec =

@@ -38,13 +38,16 @@ same-length c = search needs
 
 returns : tie.Need-returns
 returns c =
-    let s = c .before .before .before .before .before .before .before .before .before .before .before .before .before in
+    let after-write-body = c .before .before in
+    let after-put-u16 = after-write-body .before .before .before .before in
+    let after-put-u32 = after-put-u16 .before .before .before .before in
+    let s = after-put-u32 .before .before .before in
     let a = s .args in
     let c0 : Counts = record { n = a .n; m = a .m; ms = a .ms } in
     let bytes = body-bytes (a .kind) c0 (a .values .now) in
-    let length-put = c .before .before .before .before .before .before .before .before .before .before .put-u32 in
-    let kind-put = c .before .before .before .before .before .before .put-u16 in
-    let body = c .before .before .write-body in
+    let length-put = after-put-u32 .put-u32 in
+    let kind-put = after-put-u16 .put-u16 in
+    let body = after-write-body .write-body in
     let stated = body-long (a .kind) c0 (a .values .now) (s .pre .fitting) (s .pre .known) ∙ sym (s .pre .long-is) in
     let tail = tail-sets (kind-put .last .0) 6 bytes (omega (arith, stated, s .pre .room-for, length-put .kept, kind-put .kept)) (body .ensures) in
     let second =

@@ -20,8 +20,9 @@ settled c =
 long-most : (c : tie.After-record-length) → c .record-length .result ≤ 4914
 unfolding writer
 long-most c =
+    let start = c .before .before .before .before .before in
     let s = settled (c .before) in
-    rw (c .record-length .ensures) (length-most (kindOf (c .before .before .before .before .before .args .kind)) _ (s .variables) (s .rows) (s .stem-rows))
+    rw (c .record-length .ensures) (length-most (kindOf (start .args .kind)) _ (s .variables) (s .rows) (s .stem-rows))
 
 settle-requires : tie.Need-settle-requires
 settle-requires c κs = search needs
@@ -32,8 +33,10 @@ refused-requires c κs = search needs
 returns : tie.Need-returns
 unfolding writer kind
 returns c =
-    let a = c .before .before .before .before .before .args in
-    let way = pass-on (writer (a .kind) (a .n) (a .m) (a .values .now) (a .room .now)) (a .room .now) refl (c .before .before .before .settle .result) (c .before .before .before .settle .ensures ∙ any-room (a .kind) (a .n) (a .m) (a .values .now) (a .room .now)) (c .before .if1 .taken) in
+    let after-settle = c .before .before .before in
+    let start = after-settle .before .before in
+    let a = start .args in
+    let way = pass-on (writer (a .kind) (a .n) (a .m) (a .values .now) (a .room .now)) (a .room .now) refl (after-settle .settle .result) (after-settle .settle .ensures ∙ any-room (a .kind) (a .n) (a .m) (a .values .now) (a .room .now)) (c .before .if1 .taken) in
     (c .refused .ensures ∙ way .0, way .1)
 
 record-length-requires : tie.Need-record-length-requires
@@ -52,15 +55,21 @@ refused-requires-2 c κs = search needs
 returns-2 : tie.Need-returns-2
 unfolding writer kind
 returns-2 c =
-    let a = c .before .before .before .before .before .before .before .args in
-    let way = no-room (writer (a .kind) (a .n) (a .m) (a .values .now) (a .room .now)) (a .room .now) refl (c .before .before .before .before .before .settle .result) (c .before .before .before .before .before .settle .ensures ∙ any-room (a .kind) (a .n) (a .m) (a .values .now) (a .room .now)) (c .before .before .before .if1 .left) (c .before .before .record-length .result) (c .before .before .record-length .ensures) (c .before .if2 .taken) in
+    let else1 = c .before .before .before in
+    let after-settle = else1 .before .before in
+    let start = after-settle .before .before in
+    let a = start .args in
+    let way = no-room (writer (a .kind) (a .n) (a .m) (a .values .now) (a .room .now)) (a .room .now) refl (after-settle .settle .result) (after-settle .settle .ensures ∙ any-room (a .kind) (a .n) (a .m) (a .values .now) (a .room .now)) (else1 .if1 .left) (c .before .before .record-length .result) (c .before .before .record-length .ensures) (c .before .if2 .taken) in
     (c .refused2 .ensures ∙ way .0, way .1)
 
 write-out-requires : tie.Need-write-out-requires
 unfolding writer kind
 write-out-requires c κs =
-    let a = c .before .before .before .before .before .before .before .args in
-    ready (writer (a .kind) (a .n) (a .m) (a .values .now) (a .room .now)) (a .room .now) refl (c .before .before .before .before .before .settle .result) (c .before .before .before .before .before .settle .ensures ∙ any-room (a .kind) (a .n) (a .m) (a .values .now) (a .room .now)) (c .before .before .before .if1 .left) (c .before .before .record-length .result) (c .before .before .record-length .ensures) (c .before .if2 .left)
+    let else1 = c .before .before .before in
+    let after-settle = else1 .before .before in
+    let start = after-settle .before .before in
+    let a = start .args in
+    ready (writer (a .kind) (a .n) (a .m) (a .values .now) (a .room .now)) (a .room .now) refl (after-settle .settle .result) (after-settle .settle .ensures ∙ any-room (a .kind) (a .n) (a .m) (a .values .now) (a .room .now)) (else1 .if1 .left) (c .before .before .record-length .result) (c .before .before .record-length .ensures) (c .before .if2 .left)
 
 add-t10 : tie.Need-add-t10
 add-t10 c = search needs
@@ -71,8 +80,12 @@ same-length c = search needs
 returns-3 : tie.Need-returns-3
 unfolding writer kind
 returns-3 c =
-    let a = c .before .before .before .before .before .before .before .before .before .before .args in
-    written (writer (a .kind) (a .n) (a .m) (a .values .now) (a .room .now)) (a .room .now) refl (c .before .before .before .before .before .before .before .before .settle .result) (c .before .before .before .before .before .before .before .before .settle .ensures ∙ any-room (a .kind) (a .n) (a .m) (a .values .now) (a .room .now)) (c .before .before .before .before .before .before .if1 .left) (c .before .before .before .before .before .record-length .result) (c .before .before .before .before .before .record-length .ensures) (c .before .before .before .before .if2 .left) (c .before .before .write-out .ensures)
+    let else2 = c .before .before .before .before in
+    let after-record-length = else2 .before in
+    let after-settle = after-record-length .before .before .before in
+    let start = after-settle .before .before in
+    let a = start .args in
+    written (writer (a .kind) (a .n) (a .m) (a .values .now) (a .room .now)) (a .room .now) refl (after-settle .settle .result) (after-settle .settle .ensures ∙ any-room (a .kind) (a .n) (a .m) (a .values .now) (a .room .now)) (after-record-length .before .if1 .left) (after-record-length .record-length .result) (after-record-length .record-length .ensures) (else2 .if2 .left) (c .before .before .write-out .ensures)
 
 pub write-record-spec : {M : Type 1} → statement M
 write-record-spec =
