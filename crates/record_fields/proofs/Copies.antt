@@ -3,10 +3,13 @@
 use mathlib.Core.Path.{_≡_, refl, sym, ap, _∙_}
 use Prim.Native.Nat.{ℕ, suc, _+_, _*_, _-_, _≤_, _<_}
 use mathlib.Core.List.{List, [], _∷_, _++_}
-use native.Mathlib.Nat.{add-zero, zero-add}
+use native.Mathlib.Nat.{add-zero, zero-add, mul-le-mul-right}
 use native.Mathlib.Omega.{arith}
-use lib.ListN.{length, drop, set}
+use lib.IntN.{ℤ}
+use lib.ListN.{length, take, drop, set}
 use lib.Seq.{sets, length-sets, sets-eq, drop-drop}
+use Rattle.record.specs.Fields.{Form, width, number}
+use Rattle.record_fields.specs.Runs.{numbers}
 
 module _ {X : Type 0} where
   -- two runs of stores are one
@@ -33,10 +36,15 @@ module _ {X Y : Type 0} (parts : ℕ → List X → List Y) (wide long : ℕ) (s
   pub copy-start : Copy room place from count
   copy-start = record { reach = refl; reach-room = refl; kept = refl; same = refl }
 
-  pub copy-more : (now : List Y) (at index left : ℕ) (part : List Y) → Copy now at index left → 0 < left
-      → parts (suc (left - 1)) (drop at source) ≡ part ++ parts (left - 1) (drop wide (drop at source)) → length part ≡ long
-      → Copy (sets now index part) (at + wide) (index + long) (left - 1)
-  copy-more now at index left part c some more sized =
+module _ {X Y : Type 0} {parts : ℕ → List X → List Y} {wide long : ℕ} {source : List X} {place count : ℕ} {room : List Y} {from : ℕ} {now : List Y} {at index left : ℕ}
+    (c : Copy parts wide long source place count room from now at index left) where
+  -- a part that is to come is there, and so is its room
+  pub copy-there : 0 < left → place + count * wide ≤ length source → from + count * long ≤ length room → (at + wide ≤ length source) × (index + long ≤ length now)
+  copy-there some enough fits = omega (arith, c .reach, c .reach-room, c .kept, mul-le-mul-right wide some, mul-le-mul-right long some)
+
+  pub copy-more : (part : List Y) → 0 < left → parts (suc (left - 1)) (drop at source) ≡ part ++ parts (left - 1) (drop wide (drop at source)) → length part ≡ long
+      → Copy parts wide long source place count room from (sets now index part) (at + wide) (index + long) (left - 1)
+  copy-more part some more sized =
       let one : left ≡ suc (left - 1) = omega arith in
       record {
         reach = omega (arith, rw one at (c .reach));
@@ -47,5 +55,18 @@ module _ {X Y : Type 0} (parts : ℕ → List X → List Y) (wide long : ℕ) (s
             (sym (sets-append now index part (parts (left - 1) (drop wide (drop at source)))) ∙ ap (sets now index) (sym more) ∙ rw one at (c .same));
       }
 
-  pub copy-end : (now : List Y) (at index left : ℕ) → Copy now at index left → left ≡ 0 → parts 0 (drop at source) ≡ [] → now ≡ sets room from (parts count (drop place source))
-  copy-end now at index left c none nothing = sym (ap (sets now index) nothing) ∙ rw none at (c .same)
+  pub copy-end : left ≡ 0 → parts 0 (drop at source) ≡ [] → now ≡ sets room from (parts count (drop place source))
+  copy-end none nothing = sym (ap (sets now index) nothing) ∙ rw none at (c .same)
+
+-- ---- a run of numbers of one form, read number by number
+
+module _ (form : Form) {wide : ℕ} {bytes : List ℕ} {place count : ℕ} {room : List ℤ} {from : ℕ} {now : List ℤ} {at index left : ℕ}
+    (c : Copy (numbers form) wide 1 bytes place count room from now at index left) where
+  pub number-more : width form ≡ wide → 0 < left
+      → Copy (numbers form) wide 1 bytes place count room from (set now index (number form (take wide (drop at bytes)))) (at + wide) (index + 1) (left - 1)
+  unfolding numbers
+  number-more sized some = copy-more c (number form (take wide (drop at bytes)) ∷ []) some (rw (← sized)) refl
+
+  pub number-end : left ≡ 0 → now ≡ sets room from (numbers form count (drop place bytes))
+  unfolding numbers
+  number-end none = copy-end c none refl

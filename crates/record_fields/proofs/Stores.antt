@@ -18,7 +18,7 @@ use Rattle.record.specs.Ranges.{within}
 use Rattle.record.proofs.FieldLaws.{length-stored, field-holds}
 use Rattle.record.proofs.Lengths.{widths-row}
 use Rattle.record_fields.specs.Runs.{stores, all-held}
-use Rattle.record_fields.proofs.Copies.{Copy, copy-start, copy-more, copy-end, sets-append}
+use Rattle.record_fields.proofs.Copies.{Copy, copy-start, copy-there, copy-more, copy-end, sets-append}
 use Rattle.record_fields.proofs.Forms.{Formed, formed-replicate}
 use Rattle.record_fields.proofs.BodyParts.{length-row}
 
@@ -102,25 +102,35 @@ module _ (form : Form) (wide : ℕ) (zs : List ℤ) (index count : ℕ) (room : 
   pub storing-start : all-held form count (drop index zs) ≡ true → Storing room index place count
   storing-start h = record { copy = copy-start (stores form) 1 wide zs index count room place; held = h }
 
-  module _ (now : List ℕ) (i at left : ℕ) (s : Storing now i at left) where
-    module _ (some : 0 < left) (there : i < length zs) where
-      one-held : all-held form (suc (left - 1)) (drop i zs) ≡ true
-      one-held = let one : suc (left - 1) ≡ left = omega arith in rw one (s .held)
+module _ {form : Form} {wide : ℕ} {zs : List ℤ} {index count : ℕ} {room : List ℕ} {place : ℕ} {now : List ℕ} {i at left : ℕ} (s : Storing form wide zs index count room place now i at left) where
+  -- a value that is to come is there, and so is its room
+  pub storing-there : 0 < left → index + count ≤ length zs → place + count * wide ≤ length room → (i < length zs) × (at + wide ≤ length now)
+  storing-there some enough fits =
+      let both = copy-there (s .copy) some (omega arith) fits in
+      (omega (arith, both .0), both .1)
 
-      pub storing-held : holds form (getD zs i (pos 0)) ≡ true
-      storing-held = held-more form (left - 1) zs i there one-held .0
+  module _ (some : 0 < left) (there : i < length zs) where
+    one-held : all-held form (suc (left - 1)) (drop i zs) ≡ true
+    one-held = let one : suc (left - 1) ≡ left = omega arith in rw one (s .held)
 
-      pub storing-more : width form ≡ wide → Storing (sets now at (stored form (getD zs i (pos 0)))) (i + 1) (at + wide) (left - 1)
-      storing-more sized =
-          record {
-            copy = copy-more (stores form) 1 wide zs index count room place now i at left (stored form (getD zs i (pos 0))) (s .copy) some
-                (stores-more form (left - 1) zs i there) (length-stored form (getD zs i (pos 0)) ∙ sized);
-            held = held-more form (left - 1) zs i there one-held .1;
-          }
+    pub storing-held : holds form (getD zs i (pos 0)) ≡ true
+    storing-held = held-more form (left - 1) zs i there one-held .0
 
-    pub storing-end : left ≡ 0 → now ≡ sets room place (stores form count (drop index zs))
-    unfolding stores
-    storing-end none = copy-end (stores form) 1 wide zs index count room place now i at left (s .copy) none refl
+    -- once its bytes are put
+    pub storing-more : {then : List ℕ} → width form ≡ wide → at + wide ≤ length now → then ≡ take at now ++ stored form (getD zs i (pos 0)) ++ drop (at + wide) now
+        → Storing form wide zs index count room place then (i + 1) (at + wide) (left - 1)
+    storing-more sized fits put =
+        let z = getD zs i (pos 0) in
+        let long = length-stored form z ∙ sized in
+        rw (put ∙ put-is now (stored form z) at wide long fits)
+        (record {
+          copy = copy-more (s .copy) (stored form z) some (stores-more form (left - 1) zs i there) long;
+          held = held-more form (left - 1) zs i there one-held .1;
+        })
+
+  pub storing-end : left ≡ 0 → now ≡ sets room place (stores form count (drop index zs))
+  unfolding stores
+  storing-end none = copy-end (s .copy) none refl
 
 -- ---- parts, one after another
 
@@ -162,31 +172,30 @@ module _ (n : ℕ) (zs : List ℤ) (index count : ℕ) (room : List ℕ) (place 
   pub rows-start : in-range (rowsOf n count) (drop index zs) ≡ true → StoringRows room index place count
   rows-start h = record { copy = copy-start (λ k. bytesOf (rowsOf n k)) (2 * n + 1) (4 * n + 4) zs index count room place; fit = h }
 
-  module _ (now : List ℕ) (i at left : ℕ) (s : StoringRows now i at left) where
-    module _ (some : 0 < left) (there : i + (2 * n + 1) ≤ length zs) where
-      row-there : i + length (row n) ≤ length zs
-      row-there = rw (length-row n) there
+module _ {n : ℕ} {zs : List ℤ} {index count : ℕ} {room : List ℕ} {place : ℕ} {now : List ℕ} {i at left : ℕ} (s : StoringRows n zs index count room place now i at left) where
+  module _ (some : 0 < left) (there : i + (2 * n + 1) ≤ length zs) where
+    row-there : i + length (row n) ≤ length zs
+    row-there = rw (length-row n) there
 
-      rows-both : (in-range (row n) (drop i zs) ≡ true) × (in-range (rowsOf n (left - 1)) (drop (i + (2 * n + 1)) zs) ≡ true)
-      unfolding rowsOf
-      rows-both =
-          let one : left ≡ suc (left - 1) = omega arith in
-          in-range-both (row n) (rowsOf n (left - 1)) zs i (i + (2 * n + 1)) (ap (λ k. i + k) (sym (length-row n))) row-there (rw one at (s .fit))
+    rows-both : (in-range (row n) (drop i zs) ≡ true) × (in-range (rowsOf n (left - 1)) (drop (i + (2 * n + 1)) zs) ≡ true)
+    unfolding rowsOf
+    rows-both =
+        let one : left ≡ suc (left - 1) = omega arith in
+        in-range-both (row n) (rowsOf n (left - 1)) zs i (i + (2 * n + 1)) (ap (λ k. i + k) (sym (length-row n))) row-there (rw one at (s .fit))
 
-      pub row-fits : in-range (row n) (drop i zs) ≡ true
-      row-fits = rows-both .0
+    pub row-fits : in-range (row n) (drop i zs) ≡ true
+    row-fits = rows-both .0
 
-      pub rows-more : StoringRows (sets now at (bytesOf (row n) (drop i zs))) (i + (2 * n + 1)) (at + (4 * n + 4)) (left - 1)
-      unfolding rowsOf
-      rows-more =
-          let long : length (row n) ≤ length (drop i zs) = rw length-drop (omega (arith, row-there)) in
-          let more = bytesOf-split (row n) (rowsOf n (left - 1)) (drop i zs) long in
-          record {
-            copy = copy-more (λ k. bytesOf (rowsOf n k)) (2 * n + 1) (4 * n + 4) zs index count room place now i at left (bytesOf (row n) (drop i zs)) (s .copy) some
-                (rw (length-row n) at more) (length-bytes (row n) (drop i zs) long ∙ widths-row n);
-            fit = rows-both .1;
-          }
+    pub rows-more : StoringRows n zs index count room place (sets now at (bytesOf (row n) (drop i zs))) (i + (2 * n + 1)) (at + (4 * n + 4)) (left - 1)
+    unfolding rowsOf
+    rows-more =
+        let long : length (row n) ≤ length (drop i zs) = rw length-drop (omega (arith, row-there)) in
+        let more = bytesOf-split (row n) (rowsOf n (left - 1)) (drop i zs) long in
+        record {
+          copy = copy-more (s .copy) (bytesOf (row n) (drop i zs)) some (rw (length-row n) at more) (length-bytes (row n) (drop i zs) long ∙ widths-row n);
+          fit = rows-both .1;
+        }
 
-    pub rows-end : left ≡ 0 → now ≡ sets room place (bytesOf (rowsOf n count) (drop index zs))
-    unfolding rowsOf bytesOf
-    rows-end none = copy-end (λ k. bytesOf (rowsOf n k)) (2 * n + 1) (4 * n + 4) zs index count room place now i at left (s .copy) none refl
+  pub rows-end : left ≡ 0 → now ≡ sets room place (bytesOf (rowsOf n count) (drop index zs))
+  unfolding rowsOf bytesOf
+  rows-end none = copy-end (s .copy) none refl

@@ -1,5 +1,6 @@
 -- `record_fill::write_i32s` meets its contract. Assumes nothing.
-use mathlib.Core.Path.{refl, _∙_}
+use mathlib.Core.Path.{_≡_, refl}
+use mathlib.Core.Bool.{true}
 use Prim.Native.Nat.{_+_, _≤_, _<_}
 use native.Mathlib.Omega.{arith}
 use lib.IntN.{pos}
@@ -9,8 +10,7 @@ use mir.Facts.{toZ-ofZ}
 use borrow.Author.Needs.{needs, sfits-of}
 use borrow.Author.Tests.{ltb-true}
 use Rattle.record.specs.Fields.{i32, width, stored, holds}
-use Rattle.record.proofs.FieldLaws.{length-stored}
-use Rattle.record_fields.proofs.Stores.{put-is, Storing, storing-start, storing-held, storing-more, storing-end}
+use Rattle.record_fields.proofs.Stores.{Storing, storing-start, storing-there, storing-held, storing-more, storing-end}
 use Rattle.record_fill.proofs.write_i32s.Statement.{statement}
 use Rattle.record_fill.proofs.write_i32s.Tie as tie
 
@@ -20,9 +20,12 @@ Inv-loop body₀ place count values index i₀ at₀ left₀ body i at left = St
 abbrev μ-loop : tie.MeasureT-loop
 μ-loop body₀ place count values index i₀ at₀ left₀ body i at left = left
 
--- a value that is to come is there, and so is its room
-there : (c : tie.At-loop Inv-loop μ-loop) → 0 < c .loop .left → (c .loop .i < length (c .before .before .args .values .now)) × (c .loop .at + 4 ≤ length (c .loop .body))
-there c some = omega (arith, c .loop .inv .copy .reach, c .loop .inv .copy .reach-room, c .loop .inv .copy .kept)
+-- a value that is to come is there, and so is its room; and its form holds it
+there : (l : tie.At-loop Inv-loop μ-loop) → 0 < l .loop .left → (l .loop .i < length (l .before .before .args .values .now)) × (l .loop .at + 4 ≤ length (l .loop .body))
+there l some = let s = l .before .before in storing-there (l .loop .inv) some (s .pre .0) (s .pre .1)
+
+held : (l : tie.At-loop Inv-loop μ-loop) → 0 < l .loop .left → holds i32 (getD (l .before .before .args .values .now) (l .loop .i) (pos 0)) ≡ true
+held l some = storing-held (l .loop .inv) some (there l some .0)
 
 loop-holds : tie.Need-loop-holds Inv-loop μ-loop
 loop-holds c = storing-start _ _ _ _ _ _ _ (c .before .pre .2)
@@ -36,23 +39,19 @@ shared-slice-copy-out-put-i32 c = there (c .before .before) (c .before .loop-tes
 put-i32-requires : tie.Need-put-i32-requires Inv-loop μ-loop
 unfolding holds
 put-i32-requires c κs =
-    let at-loop = c .before .before .before in
-    let start = at-loop .before .before in
-    let w = at-loop .loop in
+    let l = c .before .before .before in
     let some = c .before .before .loop-test .taken in
-    let a = start .args in
-    let held = storing-held i32 4 (a .values .now) (a .index) (a .count) (a .body .now) (a .place) (w .body) (w .i) (w .at) (w .left) (w .inv) some (there (at-loop) some .0) in
-    rw (toZ-ofZ (sfits-of (c .put-i32-arg2 .given))) (there (at-loop) some .1, ltb-true _ _ held)
+    rw (toZ-ofZ (sfits-of (c .put-i32-arg2 .given))) (there l some .1, ltb-true _ _ (held l some))
 
 add-i : tie.Need-add-i Inv-loop μ-loop
 add-i c =
-    let at-test = c .before .before .before .before .before in
-    omega (arith, there (at-test .before) (at-test .loop-test .taken))
+    let test = c .before .before .before .before .before in
+    omega (arith, there (test .before) (test .loop-test .taken))
 
 add-at : tie.Need-add-at Inv-loop μ-loop
 add-at c =
-    let at-test = c .before .before .before .before .before in
-    omega (arith, there (at-test .before) (at-test .loop-test .taken))
+    let test = c .before .before .before .before .before in
+    omega (arith, there (test .before) (test .loop-test .taken))
 
 sub-left : tie.Need-sub-left Inv-loop μ-loop
 sub-left c = search needs
@@ -63,26 +62,19 @@ loop-less c = search needs
 loop-again : tie.Need-loop-again Inv-loop μ-loop
 unfolding stored width
 loop-again c =
-    let after-put-i32-arg2 = c .before .before .before in
-    let at-test = after-put-i32-arg2 .before .before in
-    let start = at-test .before .before .before in
-    let a = start .args in
-    let w = at-test .before .loop in
-    let some = at-test .loop-test .taken in
-    let z = getD (a .values .now) (w .i) (pos 0) in
-    let room = there (at-test .before) some in
-    let put = rw (toZ-ofZ {w = w64} {z = z} (sfits-of (after-put-i32-arg2 .put-i32-arg2 .given))) at (c .before .before .put-i32 .ensures) in
-    rw (put ∙ put-is (w .body) (stored i32 z) (w .at) 4 (length-stored i32 z) (room .1))
-    (storing-more i32 4 (a .values .now) (a .index) (a .count) (a .body .now) (a .place) (w .body) (w .i) (w .at) (w .left) (w .inv) some (room .0) refl)
+    let put = c .before .before in
+    let given = put .before in
+    let test = given .before .before in
+    let l = test .before in
+    let z = getD (l .before .before .args .values .now) (l .loop .i) (pos 0) in
+    let room = there l (test .loop-test .taken) in
+    storing-more (l .loop .inv) (test .loop-test .taken) (room .0) refl (room .1) (rw (toZ-ofZ {w = w64} {z = z} (sfits-of (given .put-i32-arg2 .given))) at (put .put-i32 .ensures))
 
 same-length : tie.Need-same-length Inv-loop μ-loop
 same-length c = search needs
 
 returns : tie.Need-returns Inv-loop μ-loop
-returns c =
-    let a = c .before .before .before .args in
-    let w = c .before .loop in
-    storing-end i32 4 (a .values .now) (a .index) (a .count) (a .body .now) (a .place) (w .body) (w .i) (w .at) (w .left) (w .inv) (omega arith)
+returns c = storing-end (c .before .loop .inv) (omega arith)
 
 pub write-i32s-spec : {M : Type 1} → statement M
 write-i32s-spec =

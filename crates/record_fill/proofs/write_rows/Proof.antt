@@ -1,13 +1,13 @@
 -- `record_fill::write_rows` meets its contract. Assumes nothing.
 use mathlib.Core.Path.{sym, ap, _∙_}
 use Prim.Native.Nat.{_+_, _*_, _≤_, _<_}
-use native.Mathlib.Nat.{mul-le-mul-right}
 use native.Mathlib.Omega.{arith}
 use lib.ListN.{length, drop}
 use lib.Seq.{sets}
 use borrow.Author.Needs.{needs}
 use Rattle.record.specs.Fields.{bytesOf}
 use Rattle.record_fields.proofs.BodyParts.{row-is}
+use Rattle.record_fields.proofs.Copies.{copy-there}
 use Rattle.record_fields.proofs.Stores.{StoringRows, rows-start, row-fits, rows-more, rows-end}
 use Rattle.record_fill.proofs.write_rows.Statement.{statement}
 use Rattle.record_fill.proofs.write_rows.Tie as tie
@@ -22,10 +22,7 @@ abbrev μ-loop : tie.MeasureT-loop
 module _ (c : tie.At-loop Inv-loop μ-loop) where
   wide : 0 < c .loop .left
       → (c .loop .i + (2 * c .before .before .args .n + 1) ≤ length (c .before .before .args .values .now)) × (c .loop .at + (4 * c .before .before .args .n + 4) ≤ length (c .loop .body))
-  wide some =
-      let n = c .before .before .args .n in
-      let copy = c .loop .inv .copy in
-      omega (arith, copy .reach, copy .reach-room, copy .kept, mul-le-mul-right (4 * n + 4) some, mul-le-mul-right (2 * n + 1) some)
+  wide some = copy-there (c .loop .inv .copy) some (c .before .before .pre .0) (c .before .before .pre .1)
 
 loop-holds : tie.Need-loop-holds Inv-loop μ-loop
 loop-holds c = rows-start _ _ _ _ _ _ (c .before .pre .2)
@@ -39,7 +36,7 @@ write-linear-requires c κs =
     let w = c .before .before .loop in
     let some = c .before .loop-test .taken in
     let here = wide (c .before .before) some in
-    (omega (arith, here .0), omega (arith, here .1), rw (row-is (a .n)) at (row-fits (a .n) (a .values .now) (a .index) (a .count) (a .body .now) (a .place) (w .body) (w .i) (w .at) (w .left) (w .inv) some (here .0)))
+    (omega (arith, here .0), omega (arith, here .1), rw (row-is (a .n)) at (row-fits (w .inv) some (here .0)))
 
 mul-i : tie.Need-mul-i Inv-loop μ-loop
 mul-i c =
@@ -86,16 +83,13 @@ loop-again c =
     let w = at-loop .loop in
     let some = at-test .loop-test .taken in
     let done = c .before .before .write-linear .ensures ∙ ap (λ fs. sets (w .body) (w .at) (bytesOf fs (drop (w .i) (a .values .now)))) (sym (row-is (a .n))) in
-    rw done (rows-more (a .n) (a .values .now) (a .index) (a .count) (a .body .now) (a .place) (w .body) (w .i) (w .at) (w .left) (w .inv) some (wide (at-loop) some .0))
+    rw done (rows-more (w .inv) some (wide (at-loop) some .0))
 
 same-length : tie.Need-same-length Inv-loop μ-loop
 same-length c = search needs
 
 returns : tie.Need-returns Inv-loop μ-loop
-returns c =
-    let a = c .before .before .before .args in
-    let w = c .before .loop in
-    rows-end (a .n) (a .values .now) (a .index) (a .count) (a .body .now) (a .place) (w .body) (w .i) (w .at) (w .left) (w .inv) (omega arith)
+returns c = rows-end (c .before .loop .inv) (omega arith)
 
 pub write-rows-spec : {M : Type 1} → statement M
 write-rows-spec =

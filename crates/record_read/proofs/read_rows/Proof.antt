@@ -1,7 +1,6 @@
 -- `record_read::read_rows` meets its contract. Assumes nothing.
 use mathlib.Core.Path.{refl, sym, ap, _∙_}
 use Prim.Native.Nat.{_+_, _*_, _-_, _≤_, _<_}
-use native.Mathlib.Nat.{mul-le-mul-right}
 use native.Mathlib.Omega.{arith}
 use lib.ListN.{length, drop}
 use lib.Seq.{sets}
@@ -9,7 +8,7 @@ use borrow.Author.Needs.{needs}
 use Rattle.record.specs.Fields.{values as held}
 use Rattle.record.specs.Layouts.{row, rowsOf}
 use Rattle.record.proofs.FieldLaws.{length-values}
-use Rattle.record_fields.proofs.Copies.{Copy, copy-start, copy-more, copy-end}
+use Rattle.record_fields.proofs.Copies.{Copy, copy-start, copy-there, copy-more, copy-end}
 use Rattle.record_fields.proofs.BodyParts.{row-is, length-row}
 use Rattle.record_fields.proofs.Readings.{read-row}
 use Rattle.record_read.proofs.read_rows.Statement.{statement}
@@ -26,8 +25,7 @@ module _ (c : tie.At-loop Inv-loop μ-loop) where
   wide : 0 < c .loop .left
       → (c .loop .at + (4 * c .before .before .args .n + 4) ≤ length (c .before .before .args .bytes .now)) × (c .loop .i + (2 * c .before .before .args .n + 1) ≤ length (c .loop .values))
   wide some =
-      let n = c .before .before .args .n in
-      omega (arith, c .loop .inv .reach, c .loop .inv .reach-room, c .loop .inv .kept, mul-le-mul-right (4 * n + 4) some, mul-le-mul-right (2 * n + 1) some)
+      copy-there (c .loop .inv) some (c .before .before .pre .0) (c .before .before .pre .1)
 
 loop-holds : tie.Need-loop-holds Inv-loop μ-loop
 loop-holds c = copy-start _ _ _ _ _ _ _ _
@@ -72,18 +70,14 @@ loop-again c =
     let part = held (row (a .n)) (drop (w .at) (a .bytes .now)) in
     let done = c .before .read-linear .ensures ∙ ap (λ fs. sets (w .values) (w .i) (held fs (drop (w .at) (a .bytes .now)))) (sym (row-is (a .n))) in
     rw done
-    (copy-more (λ k. held (rowsOf (a .n) k)) (4 * a .n + 4) (2 * a .n + 1) (a .bytes .now) (a .place) (a .count) (a .values .now) (a .index) (w .values) (w .at) (w .i) (w .left)
-    part (w .inv) (c .before .before .before .loop-test .taken) (read-row (a .n) (w .left - 1) (drop (w .at) (a .bytes .now))) (length-values (row (a .n)) (drop (w .at) (a .bytes .now)) ∙ length-row (a .n)))
+    (copy-more (w .inv) part (c .before .before .before .loop-test .taken) (read-row (a .n) (w .left - 1) (drop (w .at) (a .bytes .now))) (length-values (row (a .n)) (drop (w .at) (a .bytes .now)) ∙ length-row (a .n)))
 
 same-length : tie.Need-same-length Inv-loop μ-loop
 same-length c = search needs
 
 returns : tie.Need-returns Inv-loop μ-loop
 unfolding rowsOf held
-returns c =
-    let a = c .before .before .before .args in
-    let w = c .before .loop in
-    copy-end (λ k. held (rowsOf (a .n) k)) (4 * a .n + 4) (2 * a .n + 1) (a .bytes .now) (a .place) (a .count) (a .values .now) (a .index) (w .values) (w .at) (w .i) (w .left) (w .inv) (omega arith) refl
+returns c = copy-end (c .before .loop .inv) (omega arith) refl
 
 pub read-rows-spec : {M : Type 1} → statement M
 read-rows-spec =
