@@ -11,24 +11,28 @@ use borrow.Author.Needs.{needs}
 use Rattle.record_faults.proofs.lasso_fault.Statement.{statement}
 use Rattle.record_faults.proofs.lasso_fault.Tie as tie
 
+-- the call's start, from where the stem rows are in range
+abbrev start : tie.Else1 → tie.Start
+start c = c .before .before .before
+
 -- the rows are in range: the rest tells
 module _ (c : tie.Else1) where
-  past-rows : (let a = c .before .before .before .args in
+  past-rows : (let a = start c .args in
       fault (linear (a .n) ++ (weights (a .ms) ++ weights (3 * a .m + 3))) (a .bytes .now) (a .place + a .ms * (4 * a .n + 4))
       ≡ fault (rowsOf (a .n) (a .ms) ++ (linear (a .n) ++ (weights (a .ms) ++ weights (3 * a .m + 3)))) (a .bytes .now) (a .place))
   past-rows =
-      let a = c .before .before .before .args in
+      let a = start c .args in
       let part = c .before .rows-fault in
       goes-on (a .bytes .now) (rowsOf (a .n) (a .ms)) (linear (a .n) ++ (weights (a .ms) ++ weights (3 * a .m + 3))) (a .place) _ (part .result)
       (ap (λ k. a .place + k) (sym (widths-rows (a .n) (a .ms)))) (part .ensures) (c .if1 .left)
 
 -- s and s0 too
 module _ (c : tie.Else2) where
-  past-linear : (let a = c .before .before .before .before .before .args in
+  past-linear : (let a = start (c .before .before) .args in
       fault (weights (a .ms) ++ weights (3 * a .m + 3)) (a .bytes .now) (a .place + a .ms * (4 * a .n + 4) + (2 * a .n + 4))
       ≡ fault (rowsOf (a .n) (a .ms) ++ (linear (a .n) ++ (weights (a .ms) ++ weights (3 * a .m + 3)))) (a .bytes .now) (a .place))
   past-linear =
-      let a = c .before .before .before .before .before .args in
+      let a = start (c .before .before) .args in
       let part = c .before .linear-fault in
       goes-on (a .bytes .now) (linear (a .n)) (weights (a .ms) ++ weights (3 * a .m + 3)) _ _ (part .result)
       (ap (λ k. a .place + a .ms * (4 * a .n + 4) + k) (sym (widths-linear (a .n)))) (part .ensures) (c .if2 .left)
@@ -36,11 +40,11 @@ module _ (c : tie.Else2) where
 
 -- and k and T
 module _ (c : tie.Else3) where
-  past-start : (let a = c .before .before .before .before .before .before .before .args in
+  past-start : (let a = start (c .before .before .before .before) .args in
       fault (weights (3 * a .m + 3)) (a .bytes .now) (a .place + a .ms * (4 * a .n + 4) + (2 * a .n + 4) + (2 + 2 * a .ms))
       ≡ fault (rowsOf (a .n) (a .ms) ++ (linear (a .n) ++ (weights (a .ms) ++ weights (3 * a .m + 3)))) (a .bytes .now) (a .place))
   past-start =
-      let a = c .before .before .before .before .before .before .before .args in
+      let a = start (c .before .before .before .before) .args in
       let part = c .before .weights-fault in
       goes-on (a .bytes .now) (weights (a .ms)) (weights (3 * a .m + 3)) _ _ (part .result)
       (ap (λ k. a .place + a .ms * (4 * a .n + 4) + (2 * a .n + 4) + k) (sym (widths-weights (a .ms)))) (part .ensures) (c .if3 .left)
@@ -104,13 +108,12 @@ weights-fault-requires c κs = search needs
 
 returns-3 : tie.Need-returns-3
 returns-3 c =
-    let after-weights-fault = c .before in
-    let start = after-weights-fault .before .before .before .before .before .before in
-    let a = start .args in
-    let part = after-weights-fault .weights-fault in
+    let linear-past = c .before .before in
+    let a = start (linear-past .before .before) .args in
+    let part = c .before .weights-fault in
     stops (a .bytes .now) (weights (a .ms)) (weights (3 * a .m + 3)) _ _ (part .result)
     (ap (λ k. a .place + a .ms * (4 * a .n + 4) + (2 * a .n + 4) + k) (sym (widths-weights (a .ms)))) (part .ensures) (c .if3 .taken)
-    ∙ past-linear (after-weights-fault .before)
+    ∙ past-linear linear-past
 
 mul-weights-fault : tie.Need-mul-weights-fault
 mul-weights-fault c = search needs

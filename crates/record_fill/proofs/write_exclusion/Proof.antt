@@ -27,9 +27,10 @@ mul-write-i32s c = search needs
 write-i32s-requires : tie.Need-write-i32s-requires
 unfolding direction
 write-i32s-requires c κs =
-    let start = c .before .before .before .before .before .before in
+    let after-write-u16s = c .before .before .before in
+    let start = after-write-u16s .before .before .before in
     let a = start .args in
-    (search needs, search needs, held-run i32 direction (3 * a .n) (drop 1 (a .values .now)) refl (fit (start) .1))
+    (search needs, search needs, held-run i32 direction (3 * a .n) (drop 1 (a .values .now)) refl (fit start .1))
 
 same-length : tie.Need-same-length
 same-length c = search needs

@@ -34,6 +34,19 @@ module _ (s : tie.Start) where
       in-range-both (linear (a .n)) (weights (a .ms) ++ weights (3 * a .m + 3)) (a .values .now) (1 + a .ms * (2 * a .n + 1)) (1 + a .ms * (2 * a .n + 1) + (a .n + 1)) (ap (λ k. 1 + a .ms * (2 * a .n + 1) + k) (sym (length-linear (a .n))))
       (omega (arith, s .pre .0, length-linear (a .n))) (fit-rows .1)
 
+-- ---- places: the call's start from where ms, the stem rows, and s and s0 have been written
+
+abbrev start : tie.After-write-u16s → tie.Start
+start c = c .before .before .before
+
+abbrev start-2 : tie.After-write-rows → tie.Start
+start-2 c = start (c .before .before .before .before)
+
+abbrev start-3 : tie.After-write-linear → tie.Start
+start-3 c = start-2 (c .before .before .before .before)
+
+-- ---- the needs
+
 mul-place : tie.Need-mul-place
 mul-place c = search needs
 
@@ -63,10 +76,10 @@ unfolding row-count
 write-u16s-requires c κs = (search needs, search needs, held-run u16 row-count 1 (c .before .before .args .values .now) refl (fit-count (c .before .before) .0))
 
 write-rows-requires : tie.Need-write-rows-requires
-write-rows-requires c κs = (search needs, search needs, fit-rows (c .before .before .before .before .before .before) .0)
+write-rows-requires c κs = (search needs, search needs, fit-rows (start (c .before .before .before)) .0)
 
 write-linear-requires : tie.Need-write-linear-requires
-write-linear-requires c κs = (search needs, search needs, fit-linear (c .before .before .before .before .before .before .before .before .before .before) .0)
+write-linear-requires c κs = (search needs, search needs, fit-linear (start-2 (c .before .before .before)) .0)
 
 mul-write-u16s : tie.Need-mul-write-u16s
 mul-write-u16s c = search needs
@@ -94,9 +107,9 @@ add-write-u16s-6 c = search needs
 
 write-u16s-requires-2 : tie.Need-write-u16s-requires-2
 write-u16s-requires-2 c κs =
-    let start = c .before .before .before .before .before .before .before .before .before .before .before .before .before .before in
-    let a = start .args in
-    (search needs, search needs, held-formed u16 (weights (a .ms) ++ weights (3 * a .m + 3)) (a .ms + 3 * a .m + 5) (drop (1 + a .ms * (2 * a .n + 1) + (a .n + 1)) (a .values .now)) (weights-formed (a .ms) (a .m)) (weights-count (a .ms) (a .m)) (fit-linear (start) .1))
+    let s = start-3 (c .before .before .before) in
+    let a = s .args in
+    (search needs, search needs, held-formed u16 (weights (a .ms) ++ weights (3 * a .m + 3)) (a .ms + 3 * a .m + 5) (drop (1 + a .ms * (2 * a .n + 1) + (a .n + 1)) (a .values .now)) (weights-formed (a .ms) (a .m)) (weights-count (a .ms) (a .m)) (fit-linear s .1))
 
 same-length : tie.Need-same-length
 same-length c = search needs
@@ -108,8 +121,8 @@ returns c =
     let after-write-linear = after-write-u16s2 .before .before .before .before in
     let after-write-rows = after-write-linear .before .before .before .before in
     let after-write-u16s = after-write-rows .before .before .before .before in
-    let start = after-write-u16s .before .before .before in
-    let a = start .args in
+    let s = start after-write-u16s in
+    let a = s .args in
     let zs = a .values .now in
     let place = 2 + a .ms * (4 * a .n + 4) in
     let index = 1 + a .ms * (2 * a .n + 1) in
@@ -118,14 +131,14 @@ returns c =
     let invariant = after-write-linear .write-linear in
     let rest = after-write-u16s2 .write-u16s2 in
     let from-invariant =
-    write-both (linear (a .n)) (weights (a .ms) ++ weights (3 * a .m + 3)) zs index (index + (a .n + 1)) (ap (λ k. index + k) (sym (length-linear (a .n)))) (omega (arith, start .pre .0, length-linear (a .n)))
+    write-both (linear (a .n)) (weights (a .ms) ++ weights (3 * a .m + 3)) zs index (index + (a .n + 1)) (ap (λ k. index + k) (sym (length-linear (a .n)))) (omega (arith, s .pre .0, length-linear (a .n)))
     place (place + (2 * a .n + 4)) (stem .last .0) (invariant .last .0) (ap (λ k. place + k) (sym (widths-linear (a .n))))
     (invariant .ensures)
     (rest .ensures ∙ ap (sets (invariant .last .0) (place + (2 * a .n + 4))) (bytes-formed u16 (weights (a .ms) ++ weights (3 * a .m + 3)) (a .ms + 3 * a .m + 5) (drop (index + (a .n + 1)) zs) (weights-formed (a .ms) (a .m)) (weights-count (a .ms) (a .m)))) in
     let from-stem =
-    write-both (rowsOf (a .n) (a .ms)) (linear (a .n) ++ (weights (a .ms) ++ weights (3 * a .m + 3))) zs 1 index (ap (λ k. 1 + k) (sym (length-rows (a .n) (a .ms)))) (omega (arith, start .pre .0, length-rows (a .n) (a .ms)))
+    write-both (rowsOf (a .n) (a .ms)) (linear (a .n) ++ (weights (a .ms) ++ weights (3 * a .m + 3))) zs 1 index (ap (λ k. 1 + k) (sym (length-rows (a .n) (a .ms)))) (omega (arith, s .pre .0, length-rows (a .n) (a .ms)))
     2 place (count .last .0) (stem .last .0) (ap (λ k. 2 + k) (sym (widths-rows (a .n) (a .ms)))) (stem .ensures) from-invariant in
-    write-both (row-count ∷ []) (rowsOf (a .n) (a .ms) ++ (linear (a .n) ++ (weights (a .ms) ++ weights (3 * a .m + 3)))) zs 0 1 refl (omega (arith, start .pre .0)) 0 2 (a .body .now) (count .last .0) refl
+    write-both (row-count ∷ []) (rowsOf (a .n) (a .ms) ++ (linear (a .n) ++ (weights (a .ms) ++ weights (3 * a .m + 3)))) zs 0 1 refl (omega (arith, s .pre .0)) 0 2 (a .body .now) (count .last .0) refl
     (count .ensures ∙ ap (sets (a .body .now) 0) (bytes-run u16 row-count 1 zs refl)) from-stem
 
 pub write-lasso-spec : {M : Type 1} → statement M

@@ -42,9 +42,10 @@ add-write-i32s-2 c = search needs
 write-i32s-requires : tie.Need-write-i32s-requires
 unfolding right-side
 write-i32s-requires c κs =
-    let start = c .before .before .before .before .before .before in
+    let after-write-i16s = c .before .before .before in
+    let start = after-write-i16s .before .before .before in
     let a = start .args in
-    (search needs, search needs, held-run i32 right-side 1 (drop (a .index + a .count) (a .values .now)) refl (fit (start) .1))
+    (search needs, search needs, held-run i32 right-side 1 (drop (a .index + a .count) (a .values .now)) refl (fit start .1))
 
 same-length : tie.Need-same-length
 same-length c = search needs

@@ -83,7 +83,7 @@ loop-again c =
     let w = at-loop .loop in
     let some = at-test .loop-test .taken in
     let done = c .before .before .write-linear .ensures ∙ ap (λ fs. sets (w .body) (w .at) (bytesOf fs (drop (w .i) (a .values .now)))) (sym (row-is (a .n))) in
-    rw done (rows-more (w .inv) some (wide (at-loop) some .0))
+    rw done (rows-more (w .inv) some (wide at-loop some .0))
 
 same-length : tie.Need-same-length Inv-loop μ-loop
 same-length c = search needs

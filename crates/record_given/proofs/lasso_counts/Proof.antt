@@ -18,7 +18,11 @@ use borrow.Author.Needs.{needs}
 use Rattle.record_given.proofs.lasso_counts.Statement.{statement}
 use Rattle.record_given.proofs.lasso_counts.Tie as tie
 
-ms-fits : (c : tie.Else3) → within rows (getD (c .before .before .before .before .before .before .args .values .now) 0 (pos 0)) ≡ true
+-- the call's start, from where ms is there
+abbrev start : tie.Else2 → tie.Start
+start c = c .before .before .before
+
+ms-fits : (c : tie.Else3) → within rows (getD (start (c .before .before .before) .args .values .now) 0 (pos 0)) ≡ true
 unfolding rows _to_
 ms-fits c = rw (toZ-ofZ (sfits-of (c .before .before .between-arg .given))) at (sym (c .before .between .ensures) ∙ not-false _ (c .if3 .left))
 

@@ -18,42 +18,52 @@ use Rattle.record_given.proofs.settle.Tie as tie
 
 -- what came to the writer, with counts that are in range
 module _ (c : tie.Else1) where
+  abbrev answered : tie.After-counts
+  answered = c .before .before
+
+  abbrev start : tie.Start
+  start = answered .before
+
   abbrev of : Writer
-  of = writer (c .before .before .before .args .kind) (c .before .before .before .args .n) (c .before .before .before .args .m) (c .before .before .before .args .values .now) []
+  of = writer (start .args .kind) (start .args .n) (start .args .m) (start .args .values .now) []
+
+  abbrev its-counts : Counts
+  its-counts = record { n = start .args .n; m = start .args .m; ms = answered .counts .result .ms }
 
   told : first counting of ≡ done
-  told = all-counted of (c .before .before .counts .result) (c .before .before .counts .ensures) (c .if1 .left)
+  told = all-counted of (answered .counts .result) (answered .counts .ensures) (c .if1 .left)
 
-  counts-are : record { n = c .before .before .before .args .n; m = c .before .before .before .args .m; ms = c .before .before .counts .result .ms } ≡ counts-given of
+  counts-are : its-counts ≡ counts-given of
   unfolding writer
-  counts-are = counts-told of (c .before .before .counts .result) (c .before .before .counts .ensures) told
+  counts-are = counts-told of (answered .counts .result) (answered .counts .ensures) told
 
-  small : (c .before .before .before .args .n ≤ 16) × (c .before .before .before .args .m ≤ 64) × (c .before .before .counts .result .ms ≤ 64)
+  small : (start .args .n ≤ 16) × (start .args .m ≤ 64) × (answered .counts .result .ms ≤ 64)
   unfolding writer
   small =
       let s = counts-small of told in
       (s .0, s .1, rw (ap (λ (x : Counts). x .ms) counts-are) (s .2))
 
-  stated-is : lengthOf (kind of) (record { n = c .before .before .before .args .n; m = c .before .before .before .args .m; ms = c .before .before .counts .result .ms }) ≡ length-stated of
+  stated-is : lengthOf (kind of) its-counts ≡ length-stated of
   unfolding length-stated
   stated-is = ap (lengthOf (kind of)) counts-are
 
-  long-most : lengthOf (kindOf (c .before .before .before .args .kind)) (record { n = c .before .before .before .args .n; m = c .before .before .before .args .m; ms = c .before .before .counts .result .ms }) ≤ 4914
-  long-most = length-most (kindOf (c .before .before .before .args .kind)) _ (small .0) (small .1) (small .2)
+  long-most : lengthOf (kindOf (start .args .kind)) its-counts ≤ 4914
+  long-most = length-most (kindOf (start .args .kind)) _ (small .0) (small .1) (small .2)
 
 count-is : (c : tie.After-value-count) → c .value-count .result ≡ value-count (kind (of (c .before))) (counts-given (of (c .before)))
 unfolding kind writer
 count-is c = c .value-count .ensures ∙ ap (value-count (kind (of (c .before)))) (counts-are (c .before))
 
-length-is : (c : tie.Else2) → length (c .before .before .before .before .before .args .values .now) ≡ value-count (kind (of (c .before .before))) (counts-given (of (c .before .before)))
+length-is : (c : tie.Else2) → length (start (c .before .before) .args .values .now) ≡ value-count (kind (of (c .before .before))) (counts-given (of (c .before .before)))
 length-is c = c .if2 .left ∙ count-is (c .before)
 
 fault-is : (c : tie.After-values-fault)
-    → c .values-fault .result ≡ list-fault (fields (of (c .before .before .before))) (c .before .before .before .before .before .before .args .values .now) 0 (6 + widths (ahead (kind (of (c .before .before .before)))))
+    → (let e = c .before .before .before in c .values-fault .result ≡ list-fault (fields (of e)) (start e .args .values .now) 0 (6 + widths (ahead (kind (of e)))))
 unfolding fields kind writer
 fault-is c =
-    let w = of (c .before .before .before) in
-    c .values-fault .ensures ∙ ap (λ x. list-fault (listed (kind w) x) (w .list) 0 (6 + widths (ahead (kind w)))) (counts-are (c .before .before .before))
+    let e = c .before .before .before in
+    let w = of e in
+    c .values-fault .ensures ∙ ap (λ x. list-fault (listed (kind w) x) (w .list) 0 (6 + widths (ahead (kind w)))) (counts-are e)
 
 counts-requires : tie.Need-counts-requires
 counts-requires c κs = search needs
@@ -91,19 +101,18 @@ refused-requires-2 c κs = search needs
 returns-3 : tie.Need-returns-3
 unfolding kind writer
 returns-3 c =
-    let after-values-fault = c .before .before .before in
-    let e = after-values-fault .before .before .before in
+    let found = c .before .before .before in
+    let e = found .before .before .before in
     c .refused2 .ensures
-    ∙ bad-value (of e) (told e) (length-is (after-values-fault .before)) (after-values-fault .values-fault .result) (fault-is (after-values-fault)) (rw (c .before .before .record-length .ensures ∙ stated-is e) at (c .before .if3 .taken))
+    ∙ bad-value (of e) (told e) (length-is (found .before)) (found .values-fault .result) (fault-is found) (rw (c .before .before .record-length .ensures ∙ stated-is e) at (c .before .if3 .taken))
 
 returns-4 : tie.Need-returns-4
 unfolding kind writer
 returns-4 c =
-    let after-values-fault = c .before .before in
-    let after-counts = after-values-fault .before .before .before .before .before in
-    let e = after-values-fault .before .before .before in
-    counted-is (of e) (after-counts .counts .result) (after-counts .counts .ensures) (told e)
-    ∙ all-settled (of e) (told e) (length-is (after-values-fault .before)) (after-values-fault .values-fault .result) (fault-is (after-values-fault)) (rw (c .before .record-length .ensures ∙ stated-is e) at (c .if3 .left))
+    let found = c .before .before in
+    let e = found .before .before .before in
+    counted-is (of e) (answered e .counts .result) (answered e .counts .ensures) (told e)
+    ∙ all-settled (of e) (told e) (length-is (found .before)) (found .values-fault .result) (fault-is found) (rw (c .before .record-length .ensures ∙ stated-is e) at (c .if3 .left))
 
 pub settle-spec : {M : Type 1} → statement M
 settle-spec =

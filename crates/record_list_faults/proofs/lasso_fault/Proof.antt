@@ -21,34 +21,36 @@ past-count c =
     let part = c .before .run-fault in
     list-goes-on (a .values .now) (row-count ∷ []) (rowsOf (a .n) (a .ms) ++ (linear (a .n) ++ (weights (a .ms) ++ weights (3 * a .m + 3)))) 0 6 8 1 (part .result) refl refl (part .ensures row-count refl refl) (c .if1 .left)
 
+-- the call's start, from where the stem rows are in range
+abbrev start : tie.Else2 → tie.Start
+start c = c .before .before .before .before
+
 -- the stem rows too
-past-rows : (c : tie.Else2) → (let a = c .before .before .before .before .args in list-fault (linear (a .n) ++ (weights (a .ms) ++ weights (3 * a .m + 3))) (a .values .now) (1 + a .ms * (2 * a .n + 1)) (8 + a .ms * (4 * a .n + 4)) ≡ list-fault ((row-count ∷ []) ++ (rowsOf (a .n) (a .ms) ++ (linear (a .n) ++ (weights (a .ms) ++ weights (3 * a .m + 3))))) (a .values .now) 0 6)
+past-rows : (c : tie.Else2) → (let a = start c .args in list-fault (linear (a .n) ++ (weights (a .ms) ++ weights (3 * a .m + 3))) (a .values .now) (1 + a .ms * (2 * a .n + 1)) (8 + a .ms * (4 * a .n + 4)) ≡ list-fault ((row-count ∷ []) ++ (rowsOf (a .n) (a .ms) ++ (linear (a .n) ++ (weights (a .ms) ++ weights (3 * a .m + 3))))) (a .values .now) 0 6)
 past-rows c =
-    let a = c .before .before .before .before .args in
+    let a = start c .args in
     let part = c .before .rows-fault in
     list-goes-on (a .values .now) (rowsOf (a .n) (a .ms)) (linear (a .n) ++ (weights (a .ms) ++ weights (3 * a .m + 3))) 1 8 _ _ (part .result) (ap (λ k. 8 + k) (sym (widths-rows (a .n) (a .ms)))) (ap (λ k. 1 + k) (sym (length-rows (a .n) (a .ms)))) (part .ensures) (c .if2 .left)
     ∙ past-count (c .before .before)
 
 -- and s and s0
-past-linear : (c : tie.Else3) → (let a = c .before .before .before .before .before .before .args in list-fault (weights (a .ms) ++ weights (3 * a .m + 3)) (a .values .now) (1 + a .ms * (2 * a .n + 1) + (a .n + 1)) (8 + a .ms * (4 * a .n + 4) + (2 * a .n + 4)) ≡ list-fault ((row-count ∷ []) ++ (rowsOf (a .n) (a .ms) ++ (linear (a .n) ++ (weights (a .ms) ++ weights (3 * a .m + 3))))) (a .values .now) 0 6)
+past-linear : (c : tie.Else3) → (let a = start (c .before .before) .args in list-fault (weights (a .ms) ++ weights (3 * a .m + 3)) (a .values .now) (1 + a .ms * (2 * a .n + 1) + (a .n + 1)) (8 + a .ms * (4 * a .n + 4) + (2 * a .n + 4)) ≡ list-fault ((row-count ∷ []) ++ (rowsOf (a .n) (a .ms) ++ (linear (a .n) ++ (weights (a .ms) ++ weights (3 * a .m + 3))))) (a .values .now) 0 6)
 past-linear c =
-    let after-linear-fault = c .before in
-    let start = after-linear-fault .before .before .before .before .before in
-    let a = start .args in
-    let part = after-linear-fault .linear-fault in
+    let rows-past = c .before .before in
+    let a = start rows-past .args in
+    let part = c .before .linear-fault in
     list-goes-on (a .values .now) (linear (a .n)) (weights (a .ms) ++ weights (3 * a .m + 3)) _ _ _ _ (part .result) (ap (λ k. 8 + a .ms * (4 * a .n + 4) + k) (sym (widths-linear (a .n)))) (ap (λ k. 1 + a .ms * (2 * a .n + 1) + k) (sym (length-linear (a .n)))) (part .ensures) (c .if3 .left)
-    ∙ past-rows (after-linear-fault .before)
+    ∙ past-rows rows-past
 
 -- and k and T
 past-start : (c : tie.Else4)
-    → (let a = c .before .before .before .before .before .before .before .before .args in list-fault (weights (3 * a .m + 3)) (a .values .now) (1 + a .ms * (2 * a .n + 1) + (a .n + 1) + (1 + a .ms)) (8 + a .ms * (4 * a .n + 4) + (2 * a .n + 4) + (2 + 2 * a .ms)) ≡ list-fault ((row-count ∷ []) ++ (rowsOf (a .n) (a .ms) ++ (linear (a .n) ++ (weights (a .ms) ++ weights (3 * a .m + 3))))) (a .values .now) 0 6)
+    → (let a = start (c .before .before .before .before) .args in list-fault (weights (3 * a .m + 3)) (a .values .now) (1 + a .ms * (2 * a .n + 1) + (a .n + 1) + (1 + a .ms)) (8 + a .ms * (4 * a .n + 4) + (2 * a .n + 4) + (2 + 2 * a .ms)) ≡ list-fault ((row-count ∷ []) ++ (rowsOf (a .n) (a .ms) ++ (linear (a .n) ++ (weights (a .ms) ++ weights (3 * a .m + 3))))) (a .values .now) 0 6)
 past-start c =
-    let after-weights-fault = c .before in
-    let start = after-weights-fault .before .before .before .before .before .before .before in
-    let a = start .args in
-    let part = after-weights-fault .weights-fault in
+    let linear-past = c .before .before in
+    let a = start (linear-past .before .before) .args in
+    let part = c .before .weights-fault in
     list-goes-on (a .values .now) (weights (a .ms)) (weights (3 * a .m + 3)) _ _ _ _ (part .result) (ap (λ k. 8 + a .ms * (4 * a .n + 4) + (2 * a .n + 4) + k) (sym (widths-weights (a .ms)))) (ap (λ k. 1 + a .ms * (2 * a .n + 1) + (a .n + 1) + k) (sym (length-weights (a .ms)))) (part .ensures) (c .if4 .left)
-    ∙ past-linear (after-weights-fault .before)
+    ∙ past-linear linear-past
 
 run-fault-requires : tie.Need-run-fault-requires
 run-fault-requires c κs = search needs
@@ -108,12 +110,11 @@ linear-fault-requires c κs = search needs
 
 returns-3 : tie.Need-returns-3
 returns-3 c =
-    let after-linear-fault = c .before in
-    let start = after-linear-fault .before .before .before .before .before in
-    let a = start .args in
-    let part = after-linear-fault .linear-fault in
+    let rows-past = c .before .before in
+    let a = start rows-past .args in
+    let part = c .before .linear-fault in
     list-stops (a .values .now) (linear (a .n)) (weights (a .ms) ++ weights (3 * a .m + 3)) _ _ _ (part .result) (ap (λ k. 8 + a .ms * (4 * a .n + 4) + k) (sym (widths-linear (a .n)))) (part .ensures) (c .if3 .taken)
-    ∙ past-rows (after-linear-fault .before)
+    ∙ past-rows rows-past
 
 mul-kept : tie.Need-mul-kept
 mul-kept c = search needs
@@ -135,12 +136,11 @@ weights-fault-requires c κs = search needs
 
 returns-4 : tie.Need-returns-4
 returns-4 c =
-    let after-weights-fault = c .before in
-    let start = after-weights-fault .before .before .before .before .before .before .before in
-    let a = start .args in
-    let part = after-weights-fault .weights-fault in
+    let linear-past = c .before .before in
+    let a = start (linear-past .before .before) .args in
+    let part = c .before .weights-fault in
     list-stops (a .values .now) (weights (a .ms)) (weights (3 * a .m + 3)) _ _ _ (part .result) (ap (λ k. 8 + a .ms * (4 * a .n + 4) + (2 * a .n + 4) + k) (sym (widths-weights (a .ms)))) (part .ensures) (c .if4 .taken)
-    ∙ past-linear (after-weights-fault .before)
+    ∙ past-linear linear-past
 
 add-weights-fault-3 : tie.Need-add-weights-fault-3
 add-weights-fault-3 c = search needs
