@@ -175,19 +175,27 @@ pub extern "C" fn cushiedoo_write_record(
 
 // Judges a certificate's bytes for a loop's bytes.
 #[no_mangle]
-pub extern "C" fn cushiedoo_judge(rows: &[u8], certificate: &[u8], rank: &mut [i64]) -> FlatVerdict
-    ensures { λ r. ⌜ r ≡ flat-verdict (judges (judge-of (now (rows .entry)) (now (certificate .entry)) (now (rank .entry)))) ⌝ }
-    ensures { λ _. ⌜ now (rank .exit) ≡ rank-after (judge-of (now (rows .entry)) (now (certificate .entry)) (now (rank .entry))) (now (rank .entry)) ⌝ }
+pub extern "C" fn cushiedoo_judge(
+    loopbytes: &[u8],
+    certificate: &[u8],
+    rank: &mut [i64],
+) -> FlatVerdict
+    ensures { λ r. ⌜ r ≡ flat-verdict (judges (judge-of (now (loopbytes .entry)) (now (certificate .entry)) (now (rank .entry)))) ⌝ }
+    ensures { λ _. ⌜ now (rank .exit) ≡ rank-after (judge-of (now (loopbytes .entry)) (now (certificate .entry)) (now (rank .entry))) (now (rank .entry)) ⌝ }
 {
-    flat_verdict(judge::judge(rows, certificate, rank))
+    flat_verdict(judge::judge(loopbytes, certificate, rank))
 }
 
 // Tells how many steps a loop can take from a state, by a certificate that has a rank.
 #[no_mangle]
-pub extern "C" fn cushiedoo_bound(rows: &[u8], certificate: &[u8], state: &[i64]) -> FlatBounded
-    ensures { λ r. ⌜ r ≡ flat-bounded (bounds (bound-of (now (rows .entry)) (now (certificate .entry)) (now (state .entry)))) ⌝ }
+pub extern "C" fn cushiedoo_bound(
+    loopbytes: &[u8],
+    certificate: &[u8],
+    state: &[i64],
+) -> FlatBounded
+    ensures { λ r. ⌜ r ≡ flat-bounded (bounds (bound-of (now (loopbytes .entry)) (now (certificate .entry)) (now (state .entry)))) ⌝ }
 {
-    flat_bounded(judge_bound::bound(rows, certificate, state))
+    flat_bounded(judge_bound::bound(loopbytes, certificate, state))
 }
 
 // ---- the sheet

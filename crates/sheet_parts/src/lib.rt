@@ -39,9 +39,9 @@ pub fn first_part(input: &[u8], room: &mut [u8]) -> Part
         return last_part(input, written);
     }
     let end = record_parting::first_end(input);
-    let rows = &input[..end];
-    let written = sheet_write::put_judged(room, rows, &input[..0]);
-    let found = record_check::check_loop(rows);
+    let loopbytes = &input[..end];
+    let written = sheet_write::put_judged(room, loopbytes, &input[..0]);
+    let found = record_check::check_loop(loopbytes);
     if found.number != 0 {
         return last_part(input, written);
     }
@@ -63,7 +63,7 @@ pub fn next_part(input: &[u8], last: Part, room: &mut [u8]) -> Part
     ensures { λ r. ⌜ last .place < r .place ⌝ }
 {
     let end = record_parting::first_end(input);
-    let rows = &input[..end];
+    let loopbytes = &input[..end];
     let n = last.n;
     let m = last.m;
     let mut written = 0;
@@ -75,7 +75,15 @@ pub fn next_part(input: &[u8], last: Part, room: &mut [u8]) -> Part
         }
         let rest = &input[place..];
         let size = record_parting::first_end(rest);
-        written = sheet_write::put_certificate(room, written, rows, n, m, count, &rest[..size]);
+        written = sheet_write::put_certificate(
+            room,
+            written,
+            loopbytes,
+            n,
+            m,
+            count,
+            &rest[..size],
+        );
         place += size;
         count += 1;
     }

@@ -16,18 +16,18 @@ ghost use Rattle.sheet_text.specs.Sheets.{certificate-line, lines, judged, shee
 pub fn put_certificate(
     text: &mut [u8],
     place: usize,
-    rows: &[u8],
+    loopbytes: &[u8],
     n: usize,
     m: usize,
     count: usize,
     certificate: &[u8],
 ) -> usize
-    requires { ⌜ LoopSound (now rows) n m ⌝ }
-    requires { ⌜ place + length (certificate-line (now rows) count (now certificate)) ≤ length (now text) ⌝ }
-    ensures { λ r. ⌜ Puts (now (text .entry)) place (certificate-line (now (rows .entry)) count (now (certificate .entry))) r (now (text .exit)) ⌝ }
+    requires { ⌜ LoopSound (now loopbytes) n m ⌝ }
+    requires { ⌜ place + length (certificate-line (now loopbytes) count (now certificate)) ≤ length (now text) ⌝ }
+    ensures { λ r. ⌜ Puts (now (text .entry)) place (certificate-line (now (loopbytes .entry)) count (now (certificate .entry))) r (now (text .exit)) ⌝ }
 {
     let mut rank = [0i64; 16];
-    let v = judge::judge_sound(rows, n, m, certificate, &mut rank);
+    let v = judge::judge_sound(loopbytes, n, m, certificate, &mut rank);
     sheet_write_lines::put_line(text, place, count, v, &rank[..n])
 }
 
@@ -35,14 +35,14 @@ pub fn put_certificate(
 fn put_certificates(
     text: &mut [u8],
     place: usize,
-    rows: &[u8],
+    loopbytes: &[u8],
     n: usize,
     m: usize,
     certificates: &[u8],
 ) -> usize
-    requires { ⌜ LoopSound (now rows) n m ⌝ }
-    requires { ⌜ place + length (lines (now rows) 1 (records (now certificates))) ≤ length (now text) ⌝ }
-    ensures { λ r. ⌜ Puts (now (text .entry)) place (lines (now (rows .entry)) 1 (records (now (certificates .entry)))) r (now (text .exit)) ⌝ }
+    requires { ⌜ LoopSound (now loopbytes) n m ⌝ }
+    requires { ⌜ place + length (lines (now loopbytes) 1 (records (now certificates))) ≤ length (now text) ⌝ }
+    ensures { λ r. ⌜ Puts (now (text .entry)) place (lines (now (loopbytes .entry)) 1 (records (now (certificates .entry)))) r (now (text .exit)) ⌝ }
 {
     let mut at = place;
     let mut from = 0;
@@ -50,7 +50,7 @@ fn put_certificates(
     while from < certificates.len() {
         let rest = &certificates[from..];
         let end = record_parting::first_end(rest);
-        at = put_certificate(text, at, rows, n, m, count, &rest[..end]);
+        at = put_certificate(text, at, loopbytes, n, m, count, &rest[..end]);
         from += end;
         count += 1;
     }
@@ -58,17 +58,17 @@ fn put_certificates(
 }
 
 // Writes the text of a loop record and the certificates after it.
-pub fn put_judged(text: &mut [u8], rows: &[u8], certificates: &[u8]) -> usize
-    requires { ⌜ length (judged (first sound (loop-record (now rows))) (now rows) (now certificates)) ≤ length (now text) ⌝ }
-    ensures { λ r. ⌜ Puts (now (text .entry)) 0 (judged (first sound (loop-record (now (rows .entry)))) (now (rows .entry)) (now (certificates .entry))) r (now (text .exit)) ⌝ }
+pub fn put_judged(text: &mut [u8], loopbytes: &[u8], certificates: &[u8]) -> usize
+    requires { ⌜ length (judged (first sound (loop-record (now loopbytes))) (now loopbytes) (now certificates)) ≤ length (now text) ⌝ }
+    ensures { λ r. ⌜ Puts (now (text .entry)) 0 (judged (first sound (loop-record (now (loopbytes .entry)))) (now (loopbytes .entry)) (now (certificates .entry))) r (now (text .exit)) ⌝ }
 {
-    let found = record_check::check_loop(rows);
+    let found = record_check::check_loop(loopbytes);
     let at = sheet_write_lines::put_bytes(text, 0, b"loop ");
     if found.number != 0 {
         return sheet_write_lines::put_refusal(text, at, found.number, found.place);
     }
     let at = sheet_write_lines::put_pair(text, at, found.n, found.m);
-    put_certificates(text, at, rows, found.n, found.m, certificates)
+    put_certificates(text, at, loopbytes, found.n, found.m, certificates)
 }
 
 // Writes the text of an input.

@@ -26,11 +26,11 @@ module _ (c : tie.After-first-end) where
   abbrev input : List ℕ
   input = c .before .before .before .before .args .input .now
 
-  abbrev rows : List ℕ
-  rows = take (c .first-end .result) input
+  abbrev loopbytes : List ℕ
+  loopbytes = take (c .first-end .result) input
 
-  rows-are : rows ≡ first-record input
-  rows-are = first-is input (c .first-end .result) (c .first-end .ensures)
+  loopbytes-are : loopbytes ≡ first-record input
+  loopbytes-are = first-is input (c .first-end .result) (c .first-end .ensures)
 
   inside : c .first-end .result ≤ length input
   inside = omega (arith, c .first-end .ensures, taken-within input)
@@ -40,10 +40,10 @@ module _ (c : tie.After-first-end) where
 
   -- the first line
   abbrev line : List ℕ
-  line = judged (first sound (loop-record rows)) rows []
+  line = judged (first sound (loop-record loopbytes)) loopbytes []
 
   small : length line ≤ 300
-  small = judged-size (first sound (loop-record rows)) rows [] refl (rw rows-are (omega (arith, first-length input))) (omega arith)
+  small = judged-size (first sound (loop-record loopbytes)) loopbytes [] refl (rw loopbytes-are (omega (arith, first-length input))) (omega arith)
 
 put-sheet-requires : tie.Need-put-sheet-requires
 put-sheet-requires c κs =
@@ -65,8 +65,8 @@ returns c =
 first-end-requires : tie.Need-first-end-requires
 first-end-requires c κs = search needs
 
-slice-aggregate-rows : tie.Need-slice-aggregate-rows
-slice-aggregate-rows c = sym (length-take-le _ _ (inside (c .before)))
+slice-aggregate-loopbytes : tie.Need-slice-aggregate-loopbytes
+slice-aggregate-loopbytes c = sym (length-take-le _ _ (inside (c .before)))
 
 slice-aggregate-put-judged : tie.Need-slice-aggregate-put-judged
 slice-aggregate-put-judged c = search needs
@@ -90,7 +90,7 @@ returns-2 c =
     let p = k .before .before .before in
     let e = p .before .before .before .before in
     let last = c .last-part2 .ensures in
-    let told = loop-refused (rows e) (k .check-loop .result) (k .check-loop .ensures) (c .before .if2 .taken) in
+    let told = loop-refused (loopbytes e) (k .check-loop .result) (k .check-loop .ensures) (c .before .if2 .taken) in
     let text-is : sheet-text (input e) ≡ line e = text-refused (input e) (e .first-end .result) (short e) (e .first-end .ensures) _ _ told in
     rw text-is (begins-last (c .last-part2 .result) (p .put-judged .ensures) (put-judged-requires (p .before) (p .put-judged .lifetimes)) (last .0) (last .1) (last .2))
 
@@ -103,8 +103,8 @@ returns-3 c =
     let k = c .before .before in
     let p = k .before .before .before in
     let e = p .before .before .before .before in
-    let sound-loop = loop-sound (rows e) (k .check-loop .result) (k .check-loop .ensures) (c .if2 .left) in
-    let sound-first : LoopSound (first-record (input e)) (k .check-loop .result .n) (k .check-loop .result .m) = rw (rows-are e) at sound-loop in
+    let sound-loop = loop-sound (loopbytes e) (k .check-loop .result) (k .check-loop .ensures) (c .if2 .left) in
+    let sound-first : LoopSound (first-record (input e)) (k .check-loop .result .n) (k .check-loop .result .m) = rw (loopbytes-are e) at sound-loop in
     let text-is : sheet-text (input e) ≡ line e ++ to-come (input e) (e .first-end .result) 1
     = text-sound (input e) (e .first-end .result) (short e) (e .first-end .ensures) (sound-loop .told) in
     begins _ (p .put-judged .ensures) (put-judged-requires (p .before) (p .put-judged .lifetimes)) refl (sheet-text (input e))
@@ -120,7 +120,7 @@ first-part-spec =
     same-length
     returns
     first-end-requires
-    slice-aggregate-rows
+    slice-aggregate-loopbytes
     slice-aggregate-put-judged
     put-judged-requires
     check-loop-requires

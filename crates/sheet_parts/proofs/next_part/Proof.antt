@@ -18,10 +18,10 @@ use Rattle.sheet_parts.proofs.next_part.Statement.{statement}
 use Rattle.sheet_parts.proofs.next_part.Tie as tie
 
 abbrev Inv-loop : tie.InvT-loop
-Inv-loop input room₀ end rows n m written₀ place₀ count₀ room written place count = Filled input place₀ count₀ (length room₀) room written place count
+Inv-loop input room₀ end loopbytes n m written₀ place₀ count₀ room written place count = Filled input place₀ count₀ (length room₀) room written place count
 
 abbrev μ-loop : tie.MeasureT-loop
-μ-loop input room₀ end rows n m written₀ place₀ count₀ room written place count = length input - place
+μ-loop input room₀ end loopbytes n m written₀ place₀ count₀ room written place count = length input - place
 
 -- what holds before the loop
 module _ (c : tie.After-first-end Inv-loop μ-loop) where
@@ -31,11 +31,11 @@ module _ (c : tie.After-first-end Inv-loop μ-loop) where
   abbrev input : List ℕ
   input = start .args .input .now
 
-  abbrev rows : List ℕ
-  rows = take (c .first-end .result) input
+  abbrev loopbytes : List ℕ
+  loopbytes = take (c .first-end .result) input
 
-  rows-are : rows ≡ first-record input
-  rows-are = first-is input (c .first-end .result) (c .first-end .ensures)
+  loopbytes-are : loopbytes ≡ first-record input
+  loopbytes-are = first-is input (c .first-end .result) (c .first-end .ensures)
 
   short : length input ≤ 65_536
   short = start .pre .1 .0 .short (start .pre .1 .1)
@@ -99,8 +99,8 @@ module _ (c : tie.After-first-end2 Inv-loop μ-loop) where
 first-end-requires : tie.Need-first-end-requires Inv-loop μ-loop
 first-end-requires c κs = search needs
 
-slice-aggregate-rows : tie.Need-slice-aggregate-rows Inv-loop μ-loop
-slice-aggregate-rows c = let e = c .before in sym (length-take-le _ _ (omega (arith, e .first-end .ensures, taken-within (input e))))
+slice-aggregate-loopbytes : tie.Need-slice-aggregate-loopbytes Inv-loop μ-loop
+slice-aggregate-loopbytes c = let e = c .before in sym (length-take-le _ _ (omega (arith, e .first-end .ensures, taken-within (input e))))
 
 loop-holds : tie.Need-loop-holds Inv-loop μ-loop
 loop-holds c = let s = start (c .before) in filled-none _ _ _ _ (s .pre .1 .0 .within) (s .pre .1 .0 .counted)
@@ -126,7 +126,7 @@ slice-aggregate-put-certificate c = sym (certificate-long (c .before .before))
 put-certificate-requires : tie.Need-put-certificate-requires Inv-loop μ-loop
 put-certificate-requires c κs =
     let e = c .before .before in
-    rw (rows-are (begun e)) (sound (begun e), omega (arith, this-short e, at-loop e .loop .inv .same, at-loop e .loop .inv .fits))
+    rw (loopbytes-are (begun e)) (sound (begun e), omega (arith, this-short e, at-loop e .loop .inv .same, at-loop e .loop .inv .fits))
 
 add-place : tie.Need-add-place Inv-loop μ-loop
 add-place c = let e = c .before .before .before .before .before in record { fits = omega (arith, within e, long e) }
@@ -141,7 +141,7 @@ loop-again : tie.Need-loop-again Inv-loop μ-loop
 loop-again c =
     let e = c .before .before .before .before .before in
     let put = c .before .before .put-certificate in
-    filled-more (this-line e) (size e) (at-loop e .loop .inv) (here e) (rw (rows-are (begun e)) at (put .ensures)) (put .kept .0) (moves e) (omega (arith, within e, long e)) (this-short e)
+    filled-more (this-line e) (size e) (at-loop e .loop .inv) (here e) (rw (loopbytes-are (begun e)) at (put .ensures)) (put .kept .0) (moves e) (omega (arith, within e, long e)) (this-short e)
     (omega (arith, this-short e, at-loop e .loop .inv .same, at-loop e .loop .inv .fits))
 
 same-length : tie.Need-same-length Inv-loop μ-loop
@@ -168,7 +168,7 @@ next-part-spec =
     Inv-loop
     μ-loop
     first-end-requires
-    slice-aggregate-rows
+    slice-aggregate-loopbytes
     loop-holds
     sub-if1
     sub-rest

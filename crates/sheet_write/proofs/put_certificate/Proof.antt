@@ -14,11 +14,11 @@ use Rattle.sheet_write.proofs.put_certificate.Tie as tie
 -- the list that was lent has room for r
 enough : (c : tie.After-judge-sound) → c .before .before .before .before .before .args .n ≤ length (c .judge-sound .last .1 .1 .1 .1 .0)
 unfolding variables-in
-enough c = let s = c .before .before .before .before .before in omega (arith, c .judge-sound .kept .1 .1 .1 .1 .0, few-variables (s .args .rows .now) (s .pre .0 .told), s .pre .0 .n-is)
+enough c = let s = c .before .before .before .before .before in omega (arith, c .judge-sound .kept .1 .1 .1 .1 .0, few-variables (s .args .loopbytes .now) (s .pre .0 .told), s .pre .0 .n-is)
 
 -- the line of the verdict is that of the certificate
 line-is : (c : tie.After-judge-sound) → let s = c .before .before .before .before .before in
-    certificate-line (s .args .rows .now) (s .args .count) (s .args .certificate .now) ≡ verdict-line (s .args .count) (c .judge-sound .result) (take (s .args .n) (c .judge-sound .last .1 .1 .1 .1 .0))
+    certificate-line (s .args .loopbytes .now) (s .args .count) (s .args .certificate .now) ≡ verdict-line (s .args .count) (c .judge-sound .result) (take (s .args .n) (c .judge-sound .last .1 .1 .1 .1 .0))
 unfolding certificate-line lent variables-in
 line-is c = let s = c .before .before .before .before .before in rw (c .judge-sound .ensures .0, c .judge-sound .ensures .1, s .pre .0 .n-is)
 

@@ -16,14 +16,14 @@ use Rattle.sheet_write.proofs.put_certificates.Statement.{statement}
 use Rattle.sheet_write.proofs.put_certificates.Tie as tie
 
 abbrev Inv-loop : tie.InvT-loop
-Inv-loop text₀ place rows n m certificates at₀ from₀ count₀ text at from count =
+Inv-loop text₀ place loopbytes n m certificates at₀ from₀ count₀ text at from count =
     (from ≤ length certificates)
     × (count ≤ from + 1)
     × (length text ≡ length text₀)
-    × So-far text₀ place (lines rows 1 (records certificates)) (lines rows count (records (drop from certificates))) at text
+    × So-far text₀ place (lines loopbytes 1 (records certificates)) (lines loopbytes count (records (drop from certificates))) at text
 
 abbrev μ-loop : tie.MeasureT-loop
-μ-loop text₀ place rows n m certificates at₀ from₀ count₀ text at from count = length certificates - from
+μ-loop text₀ place loopbytes n m certificates at₀ from₀ count₀ text at from count = length certificates - from
 
 -- one turn: the first record of the bytes that are left
 module _ (c : tie.After-first-end Inv-loop μ-loop) where
@@ -59,15 +59,15 @@ module _ (c : tie.After-first-end Inv-loop μ-loop) where
 
   -- the line of this turn, and those after it
   abbrev this-line : List ℕ
-  this-line = certificate-line (start .args .rows .now) (at-loop .loop .count) (take (c .first-end .result) part)
+  this-line = certificate-line (start .args .loopbytes .now) (at-loop .loop .count) (take (c .first-end .result) part)
 
   abbrev other-lines : List ℕ
-  other-lines = lines (start .args .rows .now) (at-loop .loop .count + 1) (records (drop (at-loop .loop .from + c .first-end .result) (start .args .certificates .now)))
+  other-lines = lines (start .args .loopbytes .now) (at-loop .loop .count + 1) (records (drop (at-loop .loop .from + c .first-end .result) (start .args .certificates .now)))
 
-  lines-are : lines (start .args .rows .now) (at-loop .loop .count) (records left) ≡ this-line ++ other-lines
-  lines-are = lines-turn (start .args .rows .now) (at-loop .loop .count) (start .args .certificates .now) part (at-loop .loop .from) (c .first-end .result) part-is end-is some
+  lines-are : lines (start .args .loopbytes .now) (at-loop .loop .count) (records left) ≡ this-line ++ other-lines
+  lines-are = lines-turn (start .args .loopbytes .now) (at-loop .loop .count) (start .args .certificates .now) part (at-loop .loop .from) (c .first-end .result) part-is end-is some
 
-  far : So-far (start .args .text .now) (start .args .place) (lines (start .args .rows .now) 1 (records (start .args .certificates .now))) (this-line ++ other-lines) (at-loop .loop .at) (at-loop .loop .text)
+  far : So-far (start .args .text .now) (start .args .place) (lines (start .args .loopbytes .now) 1 (records (start .args .certificates .now))) (this-line ++ other-lines) (at-loop .loop .at) (at-loop .loop .text)
   far = rw lines-are at (at-loop .loop .inv .3)
 
 loop-holds : tie.Need-loop-holds Inv-loop μ-loop

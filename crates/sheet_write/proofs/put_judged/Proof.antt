@@ -22,7 +22,7 @@ use Rattle.sheet_write.proofs.put_judged.Tie as tie
 
 -- the text that is to be written
 abbrev text-of : tie.Start → List ℕ
-text-of s = judged (first sound (loop-record (s .args .rows .now))) (s .args .rows .now) (s .args .certificates .now)
+text-of s = judged (first sound (loop-record (s .args .loopbytes .now))) (s .args .loopbytes .now) (s .args .certificates .now)
 
 -- where `loop` was written, what was found before that, and where it began
 abbrev found-at : tie.After-put-bytes → tie.After-check-loop
@@ -38,23 +38,23 @@ abbrev fault-of : tie.After-put-bytes → List (List ℕ)
 fault-of w = bytes "refused" ∷ decimal (found-at w .check-loop .result .number) ∷ decimal (found-at w .check-loop .result .place) ∷ []
 
 abbrev lines-of : tie.After-put-bytes → List ℕ
-lines-of w = lines (start-of w .args .rows .now) 1 (records (start-of w .args .certificates .now))
+lines-of w = lines (start-of w .args .loopbytes .now) 1 (records (start-of w .args .certificates .now))
 
 -- the text, if the loop is refused
 refused-is : (c : tie.Then1) → let w = c .before .before .before .before in text-of (start-of w) ≡ loop-word ++ line (fault-of w)
 refused-is c =
     let w = c .before .before .before .before in
     let a = start-of w .args in
-    judged-refused (a .rows .now) (a .certificates .now) _ _ (loop-refused (a .rows .now) (found-at w .check-loop .result) (found-at w .check-loop .ensures) (c .if1 .taken))
+    judged-refused (a .loopbytes .now) (a .certificates .now) _ _ (loop-refused (a .loopbytes .now) (found-at w .check-loop .result) (found-at w .check-loop .ensures) (c .if1 .taken))
 
 -- and if it is sound
-sound-is : (c : tie.Else1) → let w = c .before .before .before .before in LoopSound (start-of w .args .rows .now) (found-at w .check-loop .result .n) (found-at w .check-loop .result .m)
+sound-is : (c : tie.Else1) → let w = c .before .before .before .before in LoopSound (start-of w .args .loopbytes .now) (found-at w .check-loop .result .n) (found-at w .check-loop .result .m)
 sound-is c =
     let w = c .before .before .before .before in
-    loop-sound (start-of w .args .rows .now) (found-at w .check-loop .result) (found-at w .check-loop .ensures) (c .if1 .left)
+    loop-sound (start-of w .args .loopbytes .now) (found-at w .check-loop .result) (found-at w .check-loop .ensures) (c .if1 .left)
 
 lines-are : (c : tie.Else1) → let w = c .before .before .before .before in text-of (start-of w) ≡ loop-word ++ (line (words-of w) ++ lines-of w)
-lines-are c = let a = start-of (c .before .before .before .before) .args in let s = sound-is c in judged-sound (a .rows .now) (a .certificates .now) _ _ (s .told) (s .n-is) (s .m-is)
+lines-are c = let a = start-of (c .before .before .before .before) .args in let s = sound-is c in judged-sound (a .loopbytes .now) (a .certificates .now) _ _ (s .told) (s .n-is) (s .m-is)
 
 check-loop-requires : tie.Need-check-loop-requires
 check-loop-requires c κs = search needs
@@ -65,7 +65,7 @@ slice-aggregate-put-bytes c = search needs
 put-bytes-requires : tie.Need-put-bytes-requires
 put-bytes-requires c κs =
     let s = c .before .before .before .before .before .before in
-    omega (arith, s .pre, judged-first (s .args .rows .now) (s .args .certificates .now) (first sound (loop-record (s .args .rows .now))))
+    omega (arith, s .pre, judged-first (s .args .loopbytes .now) (s .args .certificates .now) (first sound (loop-record (s .args .loopbytes .now))))
 
 put-refusal-requires : tie.Need-put-refusal-requires
 put-refusal-requires c κs =
