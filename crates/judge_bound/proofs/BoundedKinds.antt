@@ -13,7 +13,7 @@ use Rattle.whole.specs.Sums.{dot, sum, Within}
 use Rattle.whole.proofs.Compare.{true-le}
 use Rattle.whole.proofs.Solve.{v, neg, solve-lt, lt-fact}
 use Rattle.whole.proofs.Tables.{length-tabulate}
-use Rattle.record.specs.Layouts.{Kind, ranking, lasso, kindOf, is-loop, is-lasso}
+use Rattle.record.specs.Layouts.{ranking, lasso, kindOf, is-loop, is-lasso}
 use Rattle.record.proofs.SoundRecords.{sound-says}
 use Rattle.refusal.specs.Tests.{done, refused, first}
 use Rattle.refusal.proofs.TestLaws.{either, failed, passes-done}
@@ -22,13 +22,15 @@ use Rattle.theory.specs.Lassos as Lassos
 use Rattle.theory.specs.Rankings as Rankings
 use Rattle.judge_lasso.specs.LassoHeld.{LassoIn, lasso-held}
 use Rattle.judge_ranking.specs.declared.Ranked.{Ranked}
-use Rattle.verdict.specs.Bounding.{Bounding, state-tests, invariant, bounding, bounded, bounds, bound-of, certificates-bounded}
+use Rattle.verdict.specs.Bounding.{Bounding, given-state, invariant, bounding, bounded, bounds, bound-of, certificates-bounded}
 use Rattle.verdict.specs.Contents.{loop-in, lasso-in}
 use Rattle.verdict.specs.Pairs.{loop-record, Pair, pair-of, kind-of, variables-of, conditions, ranked-loop, ranking-of, rank-of, start-of, fall-of}
+use Rattle.verdict.specs.StateTests.{state-tests}
 use Rattle.verdict.specs.Stages.{agreed, said, shows, verdict-of}
 use Rattle.verdict.specs.declared.Bounded.{Bounded}
 use Rattle.verdict.proofs.Accepted.{ranking-conditions, lasso-conditions}
-use Rattle.verdict.proofs.BoundAnswers.{State-in, inside-all, state-fits, invariant-holds}
+use Rattle.verdict.proofs.BoundAnswers.{invariant-holds}
+use Rattle.verdict.proofs.StatesInRange.{State-in, state-fits}
 use Rattle.verdict.proofs.StageLaws.{agrees-said}
 use Rattle.verdict.proofs.SumsFit.{Ranking-sums-fit, small-state}
 use Rattle.verdict.proofs.SumsFitInBytes.{ranking-sums-fit, lasso-sums-fit-in}
@@ -73,15 +75,17 @@ module _ (loopbytes : List ℕ) (n m : ℕ) (l : LoopSound loopbytes n m) (certi
   abbrev p : Pair
   p = pair-of certificates-bounded loopbytes certificate
 
-  state-in : State-in call
+  state-told : first state-tests (given-state call) ≡ done
   unfolding bound-of variables-of
-  state-in = record { counted = fits .long ∙ l .n-is; each = inside-all state (fits .inside) }
+  state-told = rw (← l .n-is) fits
 
-  state-told : first state-tests call ≡ done
-  state-told = state-fits call .1 state-in
+  state-in : State-in (record { n = n; state = state })
+  state-in = state-fits (record { n = n; state = state }) .0 fits
+
+  pub state-long : length state ≡ n
+  state-long = state-in .counted
 
   pub state-small : Within 1_000_000 state
-  unfolding bound-of
   state-small = small-state state (state-in .each)
 
   module _ (number ms : ℕ) (c : RankSound certificates-bounded loopbytes certificate number ms) where

@@ -1,4 +1,4 @@
-pub mod States
+pub mod StepLaws
 pub mod Ways
 pub mod BoundedKinds
 pub mod OneAnswer

@@ -1,13 +1,11 @@
 -- The ways through a bound call, one for each refusal: what is told of the records and the state, and what the definition then answers.
 use mathlib.Core.Path.{_≡_, _∙_}
 use Prim.Native.Nat.{ℕ}
-use lib.ListN.{length}
-use borrow.Author.Tests.{eq-eqb, ne-eqb}
 use Rattle.record.specs.Readers.{sound}
 use Rattle.refusal.specs.Tests.{done, refused, first}
-use Rattle.refusal.proofs.TestLaws.{passed, failed}
-use Rattle.verdict.specs.Bounding.{Bounding, before-outside, state-tests, invariant, bounding, bounds, bounded}
-use Rattle.verdict.specs.Pairs.{variables-of, conditions}
+use Rattle.verdict.specs.Bounding.{Bounding, given-state, invariant, bounding, bounds, bounded}
+use Rattle.verdict.specs.StateTests.{state-tests}
+use Rattle.verdict.specs.Pairs.{conditions}
 use Rattle.verdict.specs.Stages.{refusal, said, verdict-of}
 use Rattle.verdict.proofs.StageLaws.{stage-done, stage-refused}
 use Rattle.judge.proofs.Ways.{told-eight}
@@ -28,22 +26,12 @@ module _ (b : Bounding) where
     at-certificate k p h = stage-done _ _ _ b loop-sound ∙ stage-refused _ _ _ b k p h
 
     module _ (certificate-sound : first sound (b .records .certificate-is) ≡ done) where
-      -- a state that has more or fewer entries than the loop has variables
-      pub at-count : (length (b .state) ≡ variables-of (b .records) → ⊥) → said bounding b ≡ refusal 0 10 (length (b .state))
-      unfolding bounding state-tests
-      at-count h =
-          stage-done _ _ _ b loop-sound ∙ stage-done _ _ _ b certificate-sound ∙
-          stage-refused _ _ _ b 10 (length (b .state)) (failed 10 _ _ _ b (ne-eqb _ _ h))
+      -- a state that fails a test
+      pub at-state : (k p : ℕ) → first state-tests (given-state b) ≡ refused k p → said bounding b ≡ refusal 0 k p
+      unfolding bounding
+      at-state k p h = stage-done _ _ _ b loop-sound ∙ stage-done _ _ _ b certificate-sound ∙ stage-refused _ _ _ b k p h
 
-      -- a state with an entry out of range
-      pub at-outside : length (b .state) ≡ variables-of (b .records) → (before-outside (b .state) ≡ length (b .state) → ⊥)
-          → said bounding b ≡ refusal 0 9 (before-outside (b .state))
-      unfolding bounding state-tests
-      at-outside counted h =
-          stage-done _ _ _ b loop-sound ∙ stage-done _ _ _ b certificate-sound ∙
-          stage-refused _ _ _ b 9 (before-outside (b .state)) (passed 10 _ _ _ b (eq-eqb _ _ counted) ∙ failed 9 _ _ _ b (ne-eqb _ _ h))
-
-      module _ (state-told : first state-tests b ≡ done) where
+      module _ (state-told : first state-tests (given-state b) ≡ done) where
         -- a condition that fails
         pub at-conditions : (conditions (b .records) ≡ done → ⊥) → said bounding b ≡ refusal 2 8 0
         unfolding bounding

@@ -6,14 +6,14 @@ use lib.IntN.{ℤ, pos, natAbs, _-ℤ_}
 use lib.Signed.{_<ℤ_}
 use lib.ListN.{length, take}
 use Rattle.whole.specs.Sums.{dot, Within}
-use Rattle.verdict.specs.Bounding.{before-outside}
+use Rattle.refusal.specs.Tests.{done, first}
+use Rattle.verdict.specs.StateTests.{state-tests}
 use Rattle.verdict.specs.Stages.{refusal-of}
 use Rattle.verdict.specs.declared.Bounded.{Bounded}
 
--- a state of n entries, all in range
-pub record StateFits (state : List ℤ) (n : ℕ) : Type 0 where
-  pub long : length state ≡ n
-  pub inside : before-outside state ≡ length state
+-- a state that passes its tests: n entries, all in range
+abbrev pub StateFits : List ℤ → ℕ → Type 0
+StateFits state n = first state-tests (record { n = n; state = state }) ≡ done
 
 -- a refusal has no bound
 abbrev pub no-bound : ℕ → ℕ → ℕ → Bounded

@@ -8,7 +8,7 @@ ghost use lib.ListN.{length, take};
 ghost use Rattle.whole.specs.Sums.{Within};
 ghost use Rattle.theory.specs.Rankings as Rankings;
 ghost use Rattle.theory.specs.Lassos.{Invariant};
-ghost use Rattle.verdict.specs.Bounding.{before-outside, bounds, bound-of, certificates-bounded};
+ghost use Rattle.verdict.specs.Bounding.{bounds, bound-of, certificates-bounded};
 ghost use Rattle.judge_conditions.specs.Whether.{Whether};
 ghost use Rattle.judge_lasso.specs.LassoHeld.{LassoIn, lasso-held};
 ghost use Rattle.judge.specs.Told.{LoopSound, RankSound};
@@ -23,20 +23,6 @@ fn refused(about: usize, number: usize, place: usize) -> Bounded
         verdict: judge::refused(about, number, place),
         bound: 0,
     }
-}
-
-// How many entries stand before the first that is out of range.
-fn before_outside(state: &[i64]) -> usize
-    ensures { λ r. ⌜ r ≡ before-outside (now (state .entry)) ⌝ }
-{
-    let mut i = 0;
-    while i < state.len() {
-        if !record_list_faults::between(state[i], -1000000, 1000000) {
-            return i;
-        }
-        i += 1;
-    }
-    i
 }
 
 // 0 if a value lies below the start; otherwise the whole part of how often the fall goes into what is above it, plus 1.
@@ -122,13 +108,9 @@ fn bound_sound(loopbytes: &[u8], n: usize, m: usize, certificate: &[u8], state: 
     if said.number != 0 {
         return refused(2, said.number, said.place);
     }
-    let long = state.len();
-    if long != n {
-        return refused(0, 10, long);
-    }
-    let inside = before_outside(state);
-    if inside != long {
-        return refused(0, 9, inside);
+    let fault = judge_state::state_fault(state, n);
+    if fault.number != 0 {
+        return refused(0, fault.number, fault.place);
     }
     let kind = said.kind;
     match kind {

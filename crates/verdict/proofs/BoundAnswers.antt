@@ -1,67 +1,24 @@
 -- When the bound call accepts, and what it then answers and promises: the bound is 01's formula, and no run from that state has more steps.
 use mathlib.Core.Path.{_≡_, refl, sym, ap, _∙_}
 use mathlib.Core.Logic.{_↔_}
-use Prim.Native.Nat.{ℕ, suc}
-use mathlib.Core.Bool.{Bool, true, false}
-use mathlib.Core.List.{List, [], _∷_}
-use native.Mathlib.Nat.{suc-inj}
-use native.Mathlib.Omega.{arith}
-use lib.IntN.{ℤ}
-use lib.ListN.{length}
-use borrow.Author.Tests.{eqb-true, eq-eqb}
-use Rattle.whole.specs.Sums.{Each}
+use Prim.Native.Nat.{ℕ}
 use Rattle.whole.proofs.Compare.{true-le, le-true}
-use Rattle.record.specs.Contents.{In}
 use Rattle.record.specs.Layouts.{ranking, lasso, is-lasso}
-use Rattle.record.specs.Ranges.{state-entries, within}
 use Rattle.record.specs.Readers.{sound}
-use Rattle.record.proofs.FittingValues.{in-within, within-in}
 use Rattle.refusal.specs.Tests.{done, first}
-use Rattle.refusal.proofs.TestLaws.{passes-done, done-passes, zero-done, either}
+use Rattle.refusal.proofs.TestLaws.{passes-done, done-passes, zero-done}
 use Rattle.theory.specs.Lassos as Lassos
 use Rattle.theory.specs.Rankings as Rankings
-use Rattle.verdict.specs.Bounding.{Bounding, before-outside, state-tests, invariant, bounding, bounded, bounds}
+use Rattle.verdict.specs.Bounding.{Bounding, given-state, invariant, bounding, bounded, bounds}
 use Rattle.verdict.specs.Contents.{loop-in, ranking-in, lasso-in}
-use Rattle.verdict.specs.Pairs.{kind-of, variables-of, conditions, ranked-loop, ranking-of, rank-of, start-of, fall-of, outcome-of}
+use Rattle.verdict.specs.Pairs.{kind-of, conditions, ranked-loop, ranking-of, rank-of, start-of, fall-of, outcome-of}
+use Rattle.verdict.specs.StateTests.{state-tests}
 use Rattle.verdict.specs.Stages.{Said, agreed, refusal, said, verdict-of, shows}
 use Rattle.verdict.specs.declared.Outcome.{Outcome}
 use Rattle.verdict.specs.declared.Outcome.the-variants.{Ranking, Lasso}
 use Rattle.verdict.proofs.Accepted.{Both-sound, folded-named, ranking-conditions, lasso-conditions}
+use Rattle.verdict.proofs.StatesInRange.{State-in, state-fits}
 use Rattle.verdict.proofs.StageLaws.{Agrees, agrees-said, said-agrees, number-said, Named, zero-agreed}
-
--- ---- a state in range
-
--- an entry in range is passed over
-pub before-inside : (x : ℤ) (xs : List ℤ) → within state-entries x ≡ true → before-outside (x ∷ xs) ≡ suc (before-outside xs)
-unfolding before-outside
-before-inside x xs h = step (within state-entries x) h
-  where
-    step : (b : Bool) → b ≡ true → elim b [ true ↦ suc (before-outside xs) | false ↦ 0 ] ≡ suc (before-outside xs)
-    step true e = refl
-    step false e = cc
-
--- one out of range stops the count
-pub before-stops : (x : ℤ) (xs : List ℤ) → within state-entries x ≡ false → before-outside (x ∷ xs) ≡ 0
-unfolding before-outside
-before-stops x xs h = step (within state-entries x) h
-  where
-    step : (b : Bool) → b ≡ false → _≡_ {A = ℕ} (elim b [ true ↦ suc (before-outside xs) | false ↦ 0 ]) 0
-    step true e = cc
-    step false e = refl
-
--- every entry is passed over exactly when each is in range
-pub inside-all : (xs : List ℤ) → before-outside xs ≡ length xs → Each (In state-entries) xs
-unfolding Each
-inside-all [] h = tt
-inside-all (x ∷ xs) h =
-    either (within state-entries x)
-    (λ e. (within-in state-entries x e, inside-all xs (suc-inj (sym (before-inside x xs e) ∙ h))))
-    (λ e. absurd (let z : 0 ≡ suc (length xs) = sym (before-stops x xs e) ∙ h in omega arith))
-
-all-inside : (xs : List ℤ) → Each (In state-entries) xs → before-outside xs ≡ length xs
-unfolding Each before-outside
-all-inside [] h = refl
-all-inside (x ∷ xs) h = before-inside x xs (in-within (h .0)) ∙ ap suc (all-inside xs (h .1))
 
 -- ---- the bound call
 
@@ -72,7 +29,7 @@ bounding-named b = (
   (
     zero-done sound (b .records .certificate-is) refl,
     (
-      zero-done state-tests b refl,
+      zero-done state-tests (given-state b) refl,
       (
         folded-named _,
         (
@@ -99,20 +56,6 @@ bounds-agrees b = (
   λ h. sym (number-bounded b) ∙ ap number-said (agrees-said bounding b h),
 )
 
--- the state has n entries, each in range
-pub record State-in (b : Bounding) : Type 0 where
-  pub counted : length (b .state) ≡ variables-of (b .records)
-  pub each : Each (In state-entries) (b .state)
-
-pub state-fits : (b : Bounding) → (first state-tests b ≡ done) ↔ State-in b
-unfolding state-tests
-state-fits b = (
-  λ h.
-      let p = done-passes state-tests b h in
-      record { counted = eqb-true _ _ (p .0); each = inside-all (b .state) (eqb-true _ _ (p .1 .0)) },
-  λ h. passes-done state-tests b (eq-eqb _ _ (h .counted), (eq-eqb _ _ (all-inside (b .state) (h .each)), tt)),
-)
-
 -- a lasso's state meets the invariant
 pub invariant-holds : (b : Bounding) → kind-of (b .records) ≡ lasso → (first invariant b ≡ done) ↔ Lassos.Invariant (lasso-in (b .records .certificate-is)) (b .state)
 unfolding invariant is-lasso
@@ -125,12 +68,12 @@ invariant-holds b e = (
 
 pub record Ranking-bounded (b : Bounding) : Type 0 where
   pub both-sound : Both-sound (b .records)
-  pub state-in : State-in b
+  pub state-in : State-in (given-state b)
   pub holds : Rankings.RankingHolds (loop-in (b .records .loop-is)) (ranking-in (b .records .certificate-is))
 
 pub record Lasso-bounded (b : Bounding) : Type 0 where
   pub both-sound : Both-sound (b .records)
-  pub state-in : State-in b
+  pub state-in : State-in (given-state b)
   pub holds : Lassos.LassoHolds (loop-in (b .records .loop-is)) (lasso-in (b .records .certificate-is))
   pub starts : Lassos.Invariant (lasso-in (b .records .certificate-is)) (b .state)
 
@@ -142,7 +85,7 @@ bounded-exactly-when-ranking b e =
           let a = bounds-agrees b .0 h in
           record {
             both-sound = record { loop-sound = a .0; certificate-sound = a .1 .0 };
-            state-in = state-fits b .0 (a .1 .1 .0);
+            state-in = state-fits (given-state b) .0 (a .1 .1 .0);
             holds = conditions-hold .0 (a .1 .1 .1 .0);
           },
       λ h.
@@ -151,7 +94,7 @@ bounded-exactly-when-ranking b e =
             (
               h .both-sound .certificate-sound,
               (
-                state-fits b .1 (h .state-in),
+                state-fits (given-state b) .1 (h .state-in),
                 (
                   conditions-hold .1 (h .holds),
                   (
@@ -172,7 +115,7 @@ bounded-exactly-when-lasso b e =
           let a = bounds-agrees b .0 h in
           record {
             both-sound = record { loop-sound = a .0; certificate-sound = a .1 .0 };
-            state-in = state-fits b .0 (a .1 .1 .0);
+            state-in = state-fits (given-state b) .0 (a .1 .1 .0);
             holds = conditions-hold .0 (a .1 .1 .1 .0);
             starts = invariant-holds b e .0 (a .1 .1 .1 .1 .0);
           },
@@ -182,7 +125,7 @@ bounded-exactly-when-lasso b e =
             (
               h .both-sound .certificate-sound,
               (
-                state-fits b .1 (h .state-in),
+                state-fits (given-state b) .1 (h .state-in),
                 (
                   conditions-hold .1 (h .holds),
                   (

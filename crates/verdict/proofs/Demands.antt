@@ -33,7 +33,8 @@ use Rattle.verdict.specs.Judging.{Judging, judges, judge-of, certificate
 use Rattle.verdict.specs.Outcomes.{grade-of}
 use Rattle.verdict.specs.Pairs.{Pair, loop-record, certificate-record, kind-of, conditions}
 use Rattle.verdict.specs.declared.Grade.the-variants.{Whole, Fractions}
-use Rattle.verdict.specs.Bounding.{Bounding, state-tests, bounding, bounds, bound-of}
+use Rattle.verdict.specs.Bounding.{Bounding, given-state, bounding, bounds, bound-of}
+use Rattle.verdict.specs.StateTests.{state-tests}
 use Rattle.verdict.proofs.BoundAnswers.{number-bounded, invariant-holds, bounded-exactly-when-ranking, bounded-exactly-when-lasso, ranking-bound-is, lasso-bound-is}
 use Rattle.verdict.proofs.Accepted.{folded-number, lasso-conditions, accepted-exactly-when-ranking, accepted-exactly-when-exclusion, accepted-exactly-when-lasso}
 use Rattle.verdict.proofs.Parts.{ranking-parts, exclusion-parts, lasso-parts}
@@ -184,7 +185,7 @@ module _ (l c : List ℕ) (state : List ℤ) where
         λ loop-sound. (
           number-avoided 11 sound (b .records .certificate-is) (λ z. omega arith) refl,
           λ certificate-sound. (
-            number-avoided 11 state-tests b (λ z. omega arith) refl,
+            number-avoided 11 state-tests (given-state b) (λ z. omega arith) refl,
             λ state-done. (
               folded-number 11 _ (λ z. omega arith) (λ z. omega arith),
               λ conditions-done. (

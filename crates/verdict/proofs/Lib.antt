@@ -1,4 +1,5 @@
 pub mod Accepted
+pub mod StatesInRange
 pub mod BoundAnswers
 pub mod Demands
 pub mod InValues

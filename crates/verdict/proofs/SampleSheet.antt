@@ -9,7 +9,8 @@ use lib.ListN.{replicate}
 use Rattle.record.specs.Ranges.{state-entries, within}
 use Rattle.theory.specs.Rankings.{bound}
 use Rattle.whole.specs.Sums.{dot, Each}
-use Rattle.verdict.specs.Bounding.{before-outside, state-tests, bounding, bounds, bound-of}
+use Rattle.verdict.specs.Bounding.{given-state, bounding, bounds, bound-of}
+use Rattle.verdict.specs.StateTests.{before-outside, state-tests}
 use Rattle.verdict.specs.Computing.{computing}
 use Rattle.verdict.specs.Judging.{judges, rank-after, judge-of}
 use Rattle.verdict.specs.Samples.{−, loop-bytes, ranking-bytes, exclusion-bytes, P, ends-without-rank, halves, with-stem, no-rows, no-steps, by-two, S1, S2, S3, S7, S8, S9, S10, S11, S12-ranking, S12-exclusion, S13, S14, second-of-P}
@@ -21,7 +22,7 @@ use Rattle.record.specs.Contents.{rows-values, row-values, ranking-values, excl
 use Rattle.record.specs.Samples as Records
 use Rattle.refusal.proofs.TestLaws.{passes-done}
 use Rattle.verdict.specs.Stages.{agreed, said, shows}
-use Rattle.verdict.proofs.BoundAnswers.{before-inside}
+use Rattle.verdict.proofs.StatesInRange.{before-inside}
 use Rattle.verdict.proofs.StageLaws.{agrees-said}
 use borrow.Author.Tests.{eq-eqb}
 
@@ -81,7 +82,7 @@ unfolding computing no-steps S13 loop-bytes ranking-bytes rows-values row-values
 S13-everywhere x h =
     let b = bound-of no-steps S13 (x ∷ []) in
     let inside : before-outside (x ∷ []) ≡ 1 = before-inside x [] h in
-    let agreed-on : said bounding b ≡ agreed = agrees-said bounding b (refl, (refl, (passes-done state-tests b (refl, (eq-eqb (before-outside (x ∷ [])) 1 inside, tt)), (refl, (refl, tt))))) in
+    let agreed-on : said bounding b ≡ agreed = agrees-said bounding b (refl, (refl, (passes-done state-tests (given-state b) (refl, (eq-eqb (before-outside (x ∷ [])) 1 inside, tt)), (refl, (refl, tt))))) in
     rw agreed-on (ap (λ (k : ℕ). record { verdict = shows (Ranking (pos 0) (pos 1)); bound = k }) (level x))
 
 -- every claim of the sheet holds

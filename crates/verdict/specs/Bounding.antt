@@ -1,14 +1,11 @@
 -- 01, "Numbers of the verdict": what the bound call answers, on every pair of byte strings and every state.
 -- "Bound: loop, certificate (kind 3 gives 4), 10, 9, 8, 11" is the list `bounding`.
-use Prim.Native.Nat.{ℕ, suc}
+use Prim.Native.Nat.{ℕ}
 use mathlib.Core.Bool.{Bool, true, false, not, _||_}
 use mathlib.Core.List.{List, [], _∷_}
-use lib.Dec.{eqb}
 use lib.IntN.{ℤ, pos, _+ℤ_}
-use lib.ListN.{length}
 use lib.Signed.{leZ}
 use Rattle.record.specs.Layouts.{Kind, is-lasso}
-use Rattle.record.specs.Ranges.{state-entries, within}
 use Rattle.record.specs.Readers.{sound}
 use Rattle.record.specs.Wants.{wants-of}
 use Rattle.refusal.specs.Tests.{Test, _at_unless_, first}
@@ -16,6 +13,7 @@ use Rattle.theory.specs.Rankings as Rankings
 use Rattle.whole.specs.Sums.{dot}
 use Rattle.verdict.specs.Contents.{lasso-in}
 use Rattle.verdict.specs.Pairs.{Pair, pair-of, kind-of, variables-of, conditions, rank-of, start-of, fall-of, outcome-of}
+use Rattle.verdict.specs.StateTests.{Given-state, state-tests}
 use Rattle.verdict.specs.Stages.{Said, agreed, refusal, Stage, _says_, said, verdict-of}
 use Rattle.verdict.specs.declared.Bounded.{Bounded}
 use Rattle.verdict.specs.declared.Outcome.{Outcome}
@@ -29,16 +27,9 @@ pub record Bounding : Type 0 where
   pub records : Pair
   pub state : List ℤ
 
--- how many entries stand before the first that is out of range
-unfoldable pub before-outside : List ℤ → ℕ
-before-outside [] = 0
-before-outside (x ∷ xs) = elim (within state-entries x) [ true ↦ suc (before-outside xs) | false ↦ 0 ]
-
-unfoldable pub state-tests : List (Test Bounding)
-state-tests =
-    (10 at (λ b. length (b .state)) unless λ b. eqb (length (b .state)) (variables-of (b .records)))
-    ∷ (9 at (λ b. before-outside (b .state)) unless λ b. eqb (before-outside (b .state)) (length (b .state)))
-    ∷ []
+-- the state, for the loop's n
+abbrev pub given-state : Bounding → Given-state
+given-state b = record { n = variables-of (b .records); state = b .state }
 
 -- the invariant of a lasso: s·x + s0 >= 0
 unfoldable pub invariant : List (Test Bounding)
@@ -51,7 +42,7 @@ unfoldable pub bounding : List (Stage Bounding)
 bounding =
     (1 says λ b. first sound (b .records .loop-is))
     ∷ (2 says λ b. first sound (b .records .certificate-is))
-    ∷ (0 says λ b. first state-tests b)
+    ∷ (0 says λ b. first state-tests (given-state b))
     ∷ (2 says λ b. conditions (b .records))
     ∷ (2 says λ b. first invariant b)
     ∷ []

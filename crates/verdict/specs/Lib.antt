@@ -6,3 +6,4 @@ pub mod Outcomes
 pub mod Pairs
 pub mod Samples
 pub mod Stages
+pub mod StateTests

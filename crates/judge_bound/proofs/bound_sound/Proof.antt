@@ -1,19 +1,66 @@
 -- `judge_bound::bound_sound` meets its contract: the certificate is checked, then the state; the kind leads to the conditions. Assumes nothing.
 use mathlib.Core.Logic.{inl, inr}
-use mathlib.Core.Bool.{false≢true}
-use mathlib.Core.Path.{refl, sym, ap, _∙_}
-use Rattle.record.proofs.KindLaws.{unwanted-kind}
+use mathlib.Core.Path.{_≡_, sym, ap, _∙_}
+use mathlib.Core.Bool.{true}
+use Rattle.record.specs.Layouts.{Kind, loop, ranking, exclusion, lasso, other, kindOf, has-rank}
+use Rattle.record.specs.Wants.{wants-of}
+use Rattle.record.specs.Readers.{sound}
+use Rattle.refusal.specs.Tests.{done, refused, first}
 use Rattle.record_check.specs.Checks.{certificate-check}
-use lib.ListN.{length}
-use Rattle.verdict.specs.Bounding.{before-outside, bound-of, certificates-bounded}
-use Rattle.verdict.specs.Pairs.{variables-of}
-use Rattle.judge_bound.specs.Told.{no-bound, StateFits}
+use Rattle.record_check.specs.declared.Checked.{Checked}
+use Rattle.verdict.specs.Bounding.{bound-of, certificates-bounded}
+use Rattle.verdict.specs.Pairs.{loop-record, certificate-record, variables-of}
+use Rattle.verdict.specs.StateTests.{Given-state, state-tests}
+use Rattle.judge.specs.Told.{RankSound}
 use Rattle.judge.proofs.Entered.{certificate-refused, certificate-told, kind-wanted, rank-sound-as}
-use Rattle.judge.proofs.RankKinds.{two-or-four}
-use Rattle.judge_bound.proofs.Ways.{refused-so, at-certificate, at-count, at-outside}
+use Rattle.judge.proofs.RankKinds.{no-others}
+use Rattle.judge_state.proofs.StateLaws.{state-refused, state-done}
+use Rattle.judge_bound.proofs.Ways.{refused-so, at-certificate, at-state}
 use borrow.Author.Needs.{needs}
 use Rattle.judge_bound.proofs.bound_sound.Statement.{statement}
 use Rattle.judge_bound.proofs.bound_sound.Tie as tie
+
+-- a bound is by kinds that have a rank
+bounded-ranks : (k : Kind) → certificates-bounded k ≡ true → has-rank k ≡ true
+unfolding wants-of has-rank
+bounded-ranks loop e = e
+bounded-ranks ranking e = e
+bounded-ranks exclusion e = e
+bounded-ranks lasso e = e
+bounded-ranks other e = e
+
+-- ---- once the certificate is checked: the start of the call, what the check says, and what that means
+
+module _ (c : tie.After-check-certificate) where
+  abbrev s : tie.Start
+  s = c .before .before .before
+
+  abbrev said : Checked
+  said = c .check-certificate .result
+
+  fault : (said .number ≡ 0 → ⊥)
+      → first sound (certificate-record certificates-bounded (loop-record (s .args .loopbytes .now)) (s .args .certificate .now)) ≡ refused (said .number) (said .place)
+  unfolding certificate-check
+  fault = let a = s .args in certificate-refused certificates-bounded (a .loopbytes .now) (a .n) (a .m) (s .pre) (a .certificate .now) said (c .check-certificate .ensures)
+
+  module _ (zero : said .number ≡ 0) where
+    sound-so : first sound (certificate-record certificates-bounded (loop-record (s .args .loopbytes .now)) (s .args .certificate .now)) ≡ done
+    unfolding certificate-check
+    sound-so = let a = s .args in certificate-told certificates-bounded (a .loopbytes .now) (a .n) (a .m) (s .pre) (a .certificate .now) said (c .check-certificate .ensures) zero
+
+    ranks : has-rank (kindOf (said .kind)) ≡ true
+    unfolding certificate-check
+    ranks = let a = s .args in bounded-ranks _ (kind-wanted certificates-bounded (a .loopbytes .now) (a .n) (a .m) (s .pre) (a .certificate .now) said (c .check-certificate .ensures) zero)
+
+    as-ranked : RankSound certificates-bounded (s .args .loopbytes .now) (s .args .certificate .now) (said .kind) (said .ms)
+    unfolding certificate-check
+    as-ranked = let a = s .args in rank-sound-as certificates-bounded (a .loopbytes .now) (a .n) (a .m) (s .pre) (a .certificate .now) said (c .check-certificate .ensures) zero ranks
+
+-- the state that is tested
+abbrev given : tie.Start → Given-state
+given s = record { n = s .args .n; state = s .args .state .now }
+
+-- ---- the needs
 
 check-certificate-requires : tie.Need-check-certificate-requires
 check-certificate-requires c κs = search needs
@@ -22,83 +69,57 @@ refused-requires : tie.Need-refused-requires
 refused-requires c κs = search needs
 
 returns : tie.Need-returns
-unfolding bound-of certificate-check
+unfolding bound-of
 returns c =
-    let called = c .before .before .before in
-    let s = called .before .before .before in
-    let a = s .args in
-    let v = called .check-certificate .result in
+    let checked = c .before .before .before in
+    let a = s checked .args in
     let b = bound-of (a .loopbytes .now) (a .certificate .now) (a .state .now) in
-    c .refused .ensures ∙ refused-so b 2 (v .number) (v .place) (at-certificate b (s .pre .told) _ _ (certificate-refused certificates-bounded (a .loopbytes .now) (a .n) (a .m) (s .pre) (a .certificate .now) v (called .check-certificate .ensures) (c .before .if1 .taken)))
+    let v = said checked in
+    c .refused .ensures ∙ refused-so b 2 (v .number) (v .place) (at-certificate b (s checked .pre .told) _ _ (fault checked (c .before .if1 .taken)))
+
+state-fault-requires : tie.Need-state-fault-requires
+state-fault-requires c κs = search needs
 
 refused-requires-2 : tie.Need-refused-requires-2
 refused-requires-2 c κs = search needs
 
 returns-2 : tie.Need-returns-2
-unfolding bound-of variables-of certificate-check
+unfolding bound-of variables-of
 returns-2 c =
-    let called = c .before .before .before .before in
-    let s = called .before .before .before in
-    let a = s .args in
-    let v = called .check-certificate .result in
+    let tested = c .before .before .before in
+    let passed = tested .before in
+    let checked = passed .before .before in
+    let a = s checked .args in
     let b = bound-of (a .loopbytes .now) (a .certificate .now) (a .state .now) in
+    let f = tested .state-fault in
+    let told = state-refused (given (s checked)) (f .result .number) (f .result .place) (f .ensures .0) (f .ensures .1) (c .before .if2 .taken) in
     c .refused2 .ensures
-    ∙ refused-so b 0 10 (length (a .state .now))
-    (at-count b (s .pre .told) (certificate-told certificates-bounded (a .loopbytes .now) (a .n) (a .m) (s .pre) (a .certificate .now) v (called .check-certificate .ensures) (c .before .before .if1 .left)) (λ e. c .before .if2 .taken (e ∙ sym (s .pre .n-is))))
+    ∙ refused-so b 0 (f .result .number) (f .result .place)
+    (at-state b (s checked .pre .told) (sound-so checked (passed .if1 .left)) _ _
+    (ap (λ n. first state-tests (record { n = n; state = a .state .now })) (sym (s checked .pre .n-is)) ∙ told))
 
-before-outside-requires : tie.Need-before-outside-requires
-before-outside-requires c κs = search needs
+ranked-bound-requires : tie.Need-ranked-bound-requires
+ranked-bound-requires c κs =
+    let fits = c .before in
+    let tested = fits .before .before in
+    let passed = tested .before in
+    let checked = passed .before .before in
+    let f = tested .state-fault in
+    (s checked .pre, as-ranked checked (passed .if1 .left), state-done (given (s checked)) (f .result .number) (f .result .place) (f .ensures .0) (f .ensures .1) (fits .if2 .left))
 
 refused-requires-3 : tie.Need-refused-requires-3
 refused-requires-3 c κs = search needs
 
 returns-3 : tie.Need-returns-3
-unfolding bound-of variables-of certificate-check
-returns-3 c =
-    let called = c .before .before .before .before .before .before in
-    let s = called .before .before .before in
-    let a = s .args in
-    let v = called .check-certificate .result in
-    let b = bound-of (a .loopbytes .now) (a .certificate .now) (a .state .now) in
-    let inside = c .before .before .before-outside in
-    let counted = c .before .before .before .if2 .left ∙ s .pre .n-is in
-    c .refused3 .ensures
-    ∙ ap (no-bound 0 9) (inside .ensures)
-    ∙ refused-so b 0 9 (before-outside (a .state .now))
-    (at-outside b (s .pre .told) (certificate-told certificates-bounded (a .loopbytes .now) (a .n) (a .m) (s .pre) (a .certificate .now) v (called .check-certificate .ensures) (c .before .before .before .before .if1 .left)) counted (λ e. c .before .if3 .taken (inside .ensures ∙ e)))
-
-ranked-bound-requires : tie.Need-ranked-bound-requires
-unfolding certificate-check
-ranked-bound-requires c κs =
-    let inside = c .before in
-    let counted = inside .before .before in
-    let passed = counted .before in
-    let called = passed .before .before in
-    let s = called .before .before .before in
-    let a = s .args in
-    let v = called .check-certificate .result in
-    let state : StateFits (a .state .now) (a .n) = record { long = counted .if2 .left; inside = sym (inside .before .before-outside .ensures) ∙ inside .if3 .left } in
-    (s .pre, rank-sound-as certificates-bounded (a .loopbytes .now) (a .n) (a .m) (s .pre) (a .certificate .now) v (called .check-certificate .ensures) (passed .if1 .left) (two-or-four _ (c .match .keys1)), state)
-
-refused-requires-4 : tie.Need-refused-requires-4
-refused-requires-4 c κs = search needs
-
-returns-4 : tie.Need-returns-4
-returns-4 c = search needs
+returns-3 c = search needs
 
 -- no other kind is left
-returns-5 : tie.Need-returns-5
-unfolding certificate-check
-returns-5 c =
+returns-4 : tie.Need-returns-4
+returns-4 c =
     let arm = c .before in
     let passed = arm .before .before .before .before in
-    let called = passed .before .before in
-    let s = called .before .before .before in
-    let a = s .args in
     let rest = arm .match .rest .1 in
-    let v = called .check-certificate .result in
-    let wanted = kind-wanted certificates-bounded (a .loopbytes .now) (a .n) (a .m) (s .pre) (a .certificate .now) v (called .check-certificate .ensures) (passed .if1 .left) in
-    absurd (false≢true (sym (unwanted-kind _ _ (λ two. absurd (rest (inl two))) (λ three. refl) (λ four. absurd (rest (inr four)))) ∙ wanted))
+    absurd (no-others _ (λ two. rest (inl two)) (λ four. rest (inr four)) (ranks (passed .before .before) (passed .if1 .left)))
 
 pub bound-sound-spec : {M : Type 1} → statement M
 bound-sound-spec =
@@ -107,12 +128,10 @@ bound-sound-spec =
     check-certificate-requires
     refused-requires
     returns
+    state-fault-requires
     refused-requires-2
     returns-2
-    before-outside-requires
+    ranked-bound-requires
     refused-requires-3
     returns-3
-    ranked-bound-requires
-    refused-requires-4
-    returns-4
-    returns-5)
+    returns-4)

@@ -10,7 +10,7 @@ use Rattle.judge_sums.specs.Lists.{entriesFrom}
 use Rattle.judge_sums.specs.Places.{rightAt}
 use Rattle.judge_sums.proofs.ListLaws.{state-dot}
 use Rattle.judge_lasso.specs.LassoHeld.{lasso-held, s-place}
-use Rattle.judge_bound.proofs.States.{decides-le}
+use Rattle.judge_bound.proofs.StepLaws.{decides-le}
 use mir.Facts.{toZ-ofZ}
 use borrow.Author.Needs.{needs, sfits-of}
 use Rattle.judge_bound.proofs.meets_invariant.Statement.{statement}

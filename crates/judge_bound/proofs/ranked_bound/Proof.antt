@@ -13,7 +13,7 @@ use Rattle.verdict.specs.Pairs.{pair-of}
 use Rattle.verdict.specs.Stages.{shows}
 use Rattle.judge.specs.Told.{RankedOf}
 use Rattle.judge.proofs.Sizes.{n-few}
-use Rattle.judge_bound.proofs.BoundedKinds.{state-small, lasso-there, ranked-refused, ranked-outside, ranked-fits, ranked-bounded}
+use Rattle.judge_bound.proofs.BoundedKinds.{state-long, state-small, lasso-there, ranked-refused, ranked-outside, ranked-fits, ranked-bounded}
 use Rattle.judge_bound.proofs.ranked_bound.Statement.{statement}
 use Rattle.verdict.specs.Bounding.{certificates-bounded}
 use Rattle.judge_bound.proofs.ranked_bound.Tie as tie
@@ -76,7 +76,7 @@ speaks-of-requires c κs =
     let a = s .args in
     let p = s .pre in
     let small = state-small (a .loopbytes .now) (a .n) (a .m) (p .0) (a .certificate .now) (a .state .now) (p .2) in
-    (lasso-there (a .loopbytes .now) (a .n) (a .m) (p .0) (a .certificate .now) (a .state .now) (p .2) (a .kind) (a .ms) (p .1), p .2 .long, λ i. omega (arith, small i))
+    (lasso-there (a .loopbytes .now) (a .n) (a .m) (p .0) (a .certificate .now) (a .state .now) (p .2) (a .kind) (a .ms) (p .1), state-long (a .loopbytes .now) (a .n) (a .m) (p .0) (a .certificate .now) (a .state .now) (p .2), λ i. omega (arith, small i))
 
 refused-requires-2 : tie.Need-refused-requires-2
 refused-requires-2 c κs = search needs
@@ -114,7 +114,7 @@ bound-at-requires c κs =
     ranked-fits (a .loopbytes .now) (a .n) (a .m) (p .0) (a .certificate .now) (a .state .now) (p .2) (a .kind) (a .ms) (p .1)
     shown (replicate 16 (pos 0)) (entries conditions) (by conditions) (long conditions) (not-false (shown .holds) (held .if1 .left))
     in
-    rw (start-fits conditions, fall-fits conditions) (fits, n-few _ _ _ (p .0), p .2 .long)
+    rw (start-fits conditions, fall-fits conditions) (fits, n-few _ _ _ (p .0), state-long (a .loopbytes .now) (a .n) (a .m) (p .0) (a .certificate .now) (a .state .now) (p .2))
 
 returns-3 : tie.Need-returns-3
 returns-3 c =

@@ -9,7 +9,7 @@ use mir.Syntax.{w64}
 use mir.Val.{SFits}
 use mir.Facts.{toZ-ofZ}
 use Rattle.whole.proofs.Size.{fits-abs}
-use Rattle.judge_bound.proofs.States.{above-zero, some-fall, weakly}
+use Rattle.judge_bound.proofs.StepLaws.{above-zero, some-fall, weakly}
 use Rattle.judge_bound.proofs.steps.Statement.{statement}
 use Rattle.judge_bound.proofs.steps.Tie as tie
 

@@ -1,4 +1,4 @@
--- `judge_bound::before_outside` meets its contract: before each turn all entries so far are in range. Assumes nothing.
+-- `judge_state::before_outside` meets its contract: before each turn all entries so far are in range. Assumes nothing.
 use mathlib.Core.Path.{_≡_, sym, _∙_}
 use mathlib.Core.Bool.{true, false}
 use Prim.Native.Nat.{_-_}
@@ -11,9 +11,9 @@ use mir.Syntax.{w64}
 use borrow.Author.Needs.{needs, sfits-of}
 use borrow.Author.Tests.{not-true, not-false}
 use Rattle.record.specs.Ranges.{either-way, state-entries, within}
-use Rattle.judge_bound.proofs.States.{So-far, stops, goes-on, ends}
-use Rattle.judge_bound.proofs.before_outside.Statement.{statement}
-use Rattle.judge_bound.proofs.before_outside.Tie as tie
+use Rattle.judge_state.proofs.StateLaws.{So-far, stops, goes-on, ends}
+use Rattle.judge_state.proofs.before_outside.Statement.{statement}
+use Rattle.judge_state.proofs.before_outside.Tie as tie
 
 abbrev Inv-loop : tie.InvT-loop
 Inv-loop state i₀ i = So-far state i
