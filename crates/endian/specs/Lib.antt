@@ -1,1 +1,2 @@
+-- numbers as bytes, the lowest first, and two's complement
 pub mod Numbers

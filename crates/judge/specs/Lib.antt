@@ -1,1 +1,2 @@
+-- what judging's functions know of sound records
 pub mod Told

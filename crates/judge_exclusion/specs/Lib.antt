@@ -1,1 +1,2 @@
+-- the exclusion that bytes hold
 pub mod ExclusionHeld

@@ -1,1 +1,2 @@
+-- weighted rows that carry an invariant
 pub mod InvariantCarried

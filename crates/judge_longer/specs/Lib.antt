@@ -1,1 +1,2 @@
+-- the loop with the added row
 pub mod LongerHeld

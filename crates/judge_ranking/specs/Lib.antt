@@ -1,2 +1,4 @@
+-- what a ranking's test tells
 pub mod RankedBy
+-- the ranking that bytes hold
 pub mod RankingHeld

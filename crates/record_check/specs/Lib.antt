@@ -1,1 +1,2 @@
+-- what a check answers
 pub mod Checks

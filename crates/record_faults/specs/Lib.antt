@@ -1,1 +1,2 @@
+-- the fields that a run is of
 pub mod RunsOf

@@ -1,1 +1,2 @@
+-- the bytes of a body, and when they can be written
 pub mod Bodies

@@ -1,1 +1,2 @@
+-- what is told of what came to a writer before its room
 pub mod Settled

@@ -1,1 +1,2 @@
+-- what a reading makes of a record that has been checked
 pub mod Unpacks

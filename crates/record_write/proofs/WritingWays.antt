@@ -19,7 +19,7 @@ use Rattle.record_given.specs.declared.Given.{Given}
 use Rattle.record_given.specs.Settled.{settling, settled}
 use Rattle.record_given.proofs.SettledAnswers.{settled-done, settled-refused, says}
 use Rattle.record_fill.specs.Bodies.{body-bytes}
-use Rattle.record_write.specs.WrittenOut.{Ready, refusal}
+use Rattle.record_write.specs.WrittenOut.{To-write, refusal}
 use Rattle.record_fill.proofs.BodyBytes.{body-long}
 
 module _ (w : Writer) (room : List ℕ) (room-is : w .room ≡ length room) (v : Given) (is : v ≡ settled w) where
@@ -48,7 +48,7 @@ module _ (w : Writer) (room : List ℕ) (room-is : w .room ≡ length room) (v :
           rw stated (refuses (then ∙ failed _ _ _ _ w (lt-leb _ _ few)))
 
       module _ (enough : 4 + long ≤ length room) where
-        pub ready : Ready (w .kind-number) (record { n = w .n; m = w .m; ms = v .ms }) long (w .list) room
+        pub ready : To-write (w .kind-number) (record { n = w .n; m = w .m; ms = v .ms }) long (w .list) room
         unfolding kind fields
         ready =
             let s = says w v is zero in

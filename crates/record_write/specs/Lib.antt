@@ -1,1 +1,2 @@
+-- the room after length, kind and body were written
 pub mod WrittenOut

@@ -10,7 +10,7 @@ use Rattle.record.specs.Layouts.{kindOf, is-known, Counts, lengthOf}
 use Rattle.record_fill.specs.Bodies.{Fitting}
 
 -- a record that can be written out: its values fit, and there is room for it
-pub record Ready (kind : ℕ) (c : Counts) (long : ℕ) (zs : List ℤ) (room : List ℕ) : Type 0 where
+pub record To-write (kind : ℕ) (c : Counts) (long : ℕ) (zs : List ℤ) (room : List ℕ) : Type 0 where
   pub fitting : Fitting kind c zs
   pub known : is-known (kindOf kind) ≡ true
   pub kind-fits : kind < 65536

@@ -7,7 +7,7 @@ ghost use lib.Seq.{sets};
 ghost use Rattle.endian.specs.Numbers.{digits};
 ghost use Rattle.record.specs.Writers.{writer, writes, room-after};
 ghost use Rattle.record_fill.specs.Bodies.{body-bytes};
-ghost use Rattle.record_write.specs.WrittenOut.{Ready, refusal};
+ghost use Rattle.record_write.specs.WrittenOut.{To-write, refusal};
 use record::Writing;
 
 fn refused(number: usize, place: usize) -> Writing
@@ -30,7 +30,7 @@ fn write_out(
     values: &[i64],
     room: &mut [u8],
 )
-    requires { ⌜ Ready kind (record { n = n; m = m; ms = ms }) long (now values) (now room) ⌝ }
+    requires { ⌜ To-write kind (record { n = n; m = m; ms = ms }) long (now values) (now room) ⌝ }
     ensures { λ _. ⌜ now (room .exit) ≡ sets (now (room .entry)) 0 (digits 4 long ++ (digits 2 kind ++ body-bytes kind (record { n = n; m = m; ms = ms }) (now (values .entry)))) ⌝ }
 {
     endian::put_u32(room, 0, long);

@@ -1,1 +1,2 @@
+-- an answer as fields that are numbers
 pub mod Flat

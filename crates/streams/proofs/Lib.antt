@@ -1,1 +1,1 @@
-pub mod StepLaws
+pub mod AnswerLaws

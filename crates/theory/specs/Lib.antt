@@ -1,8 +1,16 @@
+-- rows, loops, steps, runs, endless runs
 pub mod Loops
+-- a ranking's conditions, rank, start, fall, bound, and its promise
 pub mod Rankings
+-- an exclusion's conditions
 pub mod Exclusions
+-- a lasso's conditions, and its promise
 pub mod Lassos
+-- rows without weight, and a common factor
 pub mod Weights
+-- the conditions as tests in 01's order
 pub mod Conditions
+-- samples as lists of rows
 pub mod Samples
+-- what the tests tell of the samples
 pub mod Table

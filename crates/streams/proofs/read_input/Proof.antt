@@ -4,7 +4,7 @@ use Prim.Native.Nat.{_≤_}
 use native.Mathlib.Omega.{arith}
 use lib.ListN.{length}
 use borrow.Author.Needs.{needs}
-use Rattle.streams.proofs.StepLaws.{counts}
+use Rattle.streams.proofs.AnswerLaws.{counts}
 use Rattle.streams.proofs.read_input.Statement.{statement}
 use Rattle.streams.proofs.read_input.Tie as tie
 

@@ -3,7 +3,7 @@ use Prim.Native.Nat.{_+_, _≤_}
 use native.Mathlib.Omega.{arith}
 use lib.ListN.{length}
 use borrow.Author.Needs.{needs}
-use Rattle.streams.proofs.StepLaws.{moved-within}
+use Rattle.streams.proofs.AnswerLaws.{moved-within}
 use Rattle.streams.proofs.read_more.Statement.{statement}
 use Rattle.streams.proofs.read_more.Tie as tie
 

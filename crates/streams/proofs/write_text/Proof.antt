@@ -4,7 +4,7 @@ use native.Mathlib.Omega.{arith}
 use lib.ListN.{length}
 use borrow.Author.Needs.{needs}
 use borrow.Author.Tests.{not-true}
-use Rattle.streams.proofs.StepLaws.{told-all}
+use Rattle.streams.proofs.AnswerLaws.{told-all}
 use Rattle.streams.proofs.write_text.Statement.{statement}
 use Rattle.streams.proofs.write_text.Tie as tie
 
