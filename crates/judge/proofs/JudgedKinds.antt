@@ -1,14 +1,15 @@
 -- A certificate in judging: what the code's answer about its conditions means for the definition. Kinds that have a rank share one text.
-use mathlib.Core.Path.{_≡_, refl, sym, ap, _∙_}
+use mathlib.Core.Path.{_≡_, refl, ap, _∙_}
 use Prim.Native.Nat.{ℕ, _≤_, _<_}
-use mathlib.Core.Bool.{Bool, true, false, false≢true}
+use mathlib.Core.Bool.{Bool, true, false}
 use mathlib.Core.List.{List}
 use lib.IntN.{ℤ}
 use lib.ListN.{length}
 use Rattle.whole.proofs.Tables.{length-tabulate}
 use Rattle.endian.specs.Numbers.{littleAt}
-use Rattle.record.specs.Layouts.{Kind, loop, ranking, exclusion, lasso, other, kindOf, has-rank}
+use Rattle.record.specs.Layouts.{Kind, exclusion, has-rank}
 use Rattle.refusal.specs.Tests.{done, first}
+use Rattle.refusal.proofs.TestLaws.{either}
 use Rattle.theory.specs.Exclusions.{ExclusionHolds}
 use Rattle.theory.specs.Rankings as Rankings
 use Rattle.judge_conditions.specs.LoopHeld.{loop-held}
@@ -22,7 +23,7 @@ use Rattle.verdict.specs.Stages.{agreed, said, shows, refusal-of, verdict-of}
 use Rattle.verdict.specs.declared.Outcome.the-variants.{Exclusion}
 use Rattle.verdict.proofs.Accepted.{room-there, no-room-needed, exclusion-conditions}
 use Rattle.verdict.proofs.StageLaws.{agrees-said}
-use Rattle.judge.specs.Told.{first-row, LoopSound, CertificateSound, RankedOf, rank-outcome}
+use Rattle.judge.specs.Told.{first-row, LoopSound, CertificateSound, RankedOf, rank-outcome, verdict-shown}
 use Rattle.judge.proofs.RankKinds.{by-rank}
 use Rattle.judge.proofs.SoundContents.{loop-of, exclusion-of}
 use Rattle.judge.proofs.Ways.{refused-so, at-room, at-conditions}
@@ -69,16 +70,16 @@ module _ (loopbytes : List ℕ) (n m : ℕ) (l : LoopSound loopbytes n m) (certi
         unfolding judge-of variables-of
         room-told = room-there j (rw kind-told ranked) .1 (rw (← l .n-is) room)
 
-        pub ranked-refused : r .holds ≡ false → (refusal-of 2 8 0 ≡ judges j) × (after ≡ rank-after j lent)
-        ranked-refused e = let answers = fails-so room-told (by .decided .no-fails e) in (answers .0, by .stays e ∙ answers .1)
-
-        pub ranked-accepted : r .holds ≡ true → (shows (rank-outcome k (r .start) (r .fall)) ≡ judges j) × (after ≡ rank-after j lent)
-        unfolding judges rank-after verdict-of ranks judge-of rank-of Rankings.rank start-of fall-of
-        ranked-accepted e =
+        pub ranked-judged : (verdict-shown k r ≡ judges j) × (after ≡ rank-after j lent)
+        unfolding verdict-shown judges rank-after verdict-of ranks judge-of rank-of Rankings.rank start-of fall-of
+        ranked-judged =
+            either (r .holds)
+            (λ e.
             let done-so = agreed-so room-told (by .decided .yes-holds e) in (
-              rw (done-so, kind-told, by .start-is e, by .fall-is e) (ap shows (outcome-is k p ranked)),
+              rw (e, done-so, kind-told, by .start-is e, by .fall-is e) (ap shows (outcome-is k p ranked)),
               by .put e ∙ rw (done-so, kind-told, ranked, length-tabulate),
-            )
+            ))
+            (λ e. let answers = fails-so room-told (by .decided .no-fails e) in (rw e (answers .0), by .stays e ∙ answers .1))
 
   -- ---- kind 3
 

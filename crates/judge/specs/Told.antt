@@ -1,6 +1,6 @@
 -- What the judge's functions are told of the records: that they are sound, with the loop's counts and the certificate's kind; and what they tell of them.
 use Prim.Native.Nat.{ℕ}
-use mathlib.Core.Bool.{Bool, true}
+use mathlib.Core.Bool.{Bool, true, cond}
 use mathlib.Core.Path.{_≡_}
 use mathlib.Core.List.{List}
 use lib.IntN.{ℤ}
@@ -9,6 +9,7 @@ use Rattle.record.specs.Readers.{kind, counts-read, sound}
 use Rattle.refusal.specs.Tests.{done, first}
 use Rattle.verdict.specs.Judging.{judges, rank-after, judge-of}
 use Rattle.verdict.specs.Pairs.{loop-record, certificate-record, Pair, conditions, ranked-loop, ranking-of}
+use Rattle.verdict.specs.Stages.{shows, refusal-of}
 use Rattle.verdict.specs.declared.Outcome.{Outcome}
 use Rattle.verdict.specs.declared.Outcome.the-variants.{Nothing, Ranking, Lasso}
 use Rattle.verdict.specs.declared.Verdict.{Verdict}
@@ -36,11 +37,6 @@ pub record RankSound (wants : Kind → Bool) (loopbytes bytes : List ℕ) (numbe
   pub ms-is : ms ≡ counts-read (certificate-record wants (loop-record loopbytes) bytes) .ms
   pub ranks : has-rank (kindOf number) ≡ true
 
--- the same, whichever kinds were wanted
-pub record HasRank (loopbytes bytes : List ℕ) (number ms : ℕ) : Type 0 where
-  pub wants : Kind → Bool
-  pub rank-sound : RankSound wants loopbytes bytes number ms
-
 -- whether its conditions hold; and then start, fall and rank, which are those of kind 2, or within kind 4 over the loop with the added row
 abbrev pub RankedOf : Ranked → Pair → List ℤ → List ℤ → Type 0
 RankedOf r p before after = RankedBy r (conditions p ≡ done) (ranked-loop p) (ranking-of p) before after
@@ -52,6 +48,10 @@ rank-outcome ranking start fall = Ranking start fall
 rank-outcome exclusion start fall = Nothing
 rank-outcome lasso start fall = Lasso start fall
 rank-outcome other start fall = Nothing
+
+-- and its verdict, from what its conditions tell
+unfoldable pub verdict-shown : Kind → Ranked → Verdict
+verdict-shown k r = cond (r .holds) (shows (rank-outcome k (r .start) (r .fall))) (refusal-of 2 8 0)
 
 -- a verdict and the rank list afterwards are those of judging
 abbrev pub Judged : List ℕ → List ℕ → List ℤ → Verdict → List ℤ → Type 0

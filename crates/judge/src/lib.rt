@@ -1,16 +1,12 @@
 // Judge: whether a certificate's bytes prove what they claim of a loop's bytes. Every input has an answer; a refusal changes nothing that was lent.
 ghost use mathlib.Core.Path.{_≡_};
-ghost use Prim.Native.Nat.{_≤_};
 ghost use lib.IntN.{ℤ};
-ghost use lib.ListN.{length};
 ghost use mathlib.Core.List.{List};
-ghost use mathlib.Core.Bool.{Bool};
-ghost use Rattle.record.specs.Layouts.{Kind, exclusion, kindOf};
+ghost use Rattle.record.specs.Layouts.{exclusion, kindOf};
 ghost use Rattle.verdict.specs.Judging.{judges, rank-after, judge-of, certificates-judged};
 ghost use Rattle.verdict.specs.Outcomes.{grade-of};
-ghost use Rattle.verdict.specs.Pairs.{pair-of};
 ghost use Rattle.verdict.specs.Stages.{shows, refusal-of};
-ghost use Rattle.judge.specs.Told.{LoopSound, CertificateSound, RankSound, HasRank, RankedOf, rank-outcome, Judged};
+ghost use Rattle.judge.specs.Told.{LoopSound, CertificateSound, RankSound, rank-outcome, verdict-shown, Judged};
 use judge_ranking::Ranked;
 use record::Wanted;
 use verdict::Grade;
@@ -18,7 +14,7 @@ use verdict::Outcome;
 use verdict::Verdict;
 
 // Where the first row of a loop record starts.
-const FIRST_ROW: usize = 10;
+pub const FIRST_ROW: usize = 10;
 
 // What is accepted, with what it shows.
 pub fn accepted(outcome: Outcome) -> Verdict
@@ -44,29 +40,7 @@ pub fn refused(about: usize, number: usize, place: usize) -> Verdict
     }
 }
 
-// Kinds 2 and 4, of sound records: whether the conditions hold, and what is then shown. The rank is put into the list where
-// they hold.
-pub fn rank_conditions(
-    loopbytes: &[u8],
-    n: usize,
-    m: usize,
-    certificate: &[u8],
-    kind: usize,
-    ms: usize,
-    rank: &mut [i64],
-) -> Ranked
-    requires { ⌜ LoopSound (now loopbytes) n m × HasRank (now loopbytes) (now certificate) kind ms × (n ≤ length (now rank)) ⌝ }
-    ensures { λ r. ⌜ ((wants : Kind → Bool) → RankSound wants (now (loopbytes .entry)) (now (certificate .entry)) kind ms
-        → RankedOf r (pair-of wants (now (loopbytes .entry)) (now (certificate .entry))) (now (rank .entry)) (now (rank .exit))) ⌝ }
-{
-    match kind {
-        2 => judge_ranking::ranking(loopbytes, FIRST_ROW, n, m, certificate, rank),
-        4 => judge_lasso::lasso(loopbytes, FIRST_ROW, n, m, certificate, ms, rank),
-        _ => judge_ranking::fails(),
-    }
-}
-
-// Their outcome.
+// The outcome of a kind that has a rank.
 pub fn rank_outcome(kind: usize, start: i64, fall: i64) -> Outcome
     ensures { λ r. ⌜ r ≡ rank-outcome (kindOf kind) start fall ⌝ }
 {
@@ -83,8 +57,18 @@ pub fn rank_outcome(kind: usize, start: i64, fall: i64) -> Outcome
     }
 }
 
+// The verdict of a kind that has a rank, from what its conditions tell.
+fn ranked_verdict(kind: usize, shown: Ranked) -> Verdict
+    ensures { λ r. ⌜ r ≡ verdict-shown (kindOf kind) shown ⌝ }
+{
+    if !shown.holds {
+        return refused(2, 8, 0);
+    }
+    accepted(rank_outcome(kind, shown.start, shown.fall))
+}
+
 // Kinds 2 and 4, of sound records.
-fn ranked_verdict(
+fn judge_ranked(
     loopbytes: &[u8],
     n: usize,
     m: usize,
@@ -99,15 +83,21 @@ fn ranked_verdict(
     if rank.len() < n {
         return refused(0, 7, n);
     }
-    let shown = rank_conditions(loopbytes, n, m, certificate, kind, ms, rank);
-    if !shown.holds {
-        return refused(2, 8, 0);
+    match kind {
+        2 => ranked_verdict(
+            kind,
+            judge_ranking::ranking(loopbytes, FIRST_ROW, n, m, certificate, rank),
+        ),
+        4 => ranked_verdict(
+            kind,
+            judge_lasso::lasso(loopbytes, FIRST_ROW, n, m, certificate, ms, rank),
+        ),
+        _ => refused(2, 4, 4),
     }
-    accepted(rank_outcome(kind, shown.start, shown.fall))
 }
 
 // Kind 3, of sound records. It has no rank, so the answer is the same for every list.
-fn exclusion_verdict(loopbytes: &[u8], n: usize, m: usize, certificate: &[u8]) -> Verdict
+fn judge_excluded(loopbytes: &[u8], n: usize, m: usize, certificate: &[u8]) -> Verdict
     requires { ⌜ LoopSound (now loopbytes) n m × CertificateSound certificates-judged (now loopbytes) (now certificate) exclusion ⌝ }
     ensures { λ r. ⌜ ((lent : List ℤ) → Judged (now (loopbytes .entry)) (now (certificate .entry)) lent r lent) ⌝ }
 {
@@ -150,8 +140,8 @@ pub fn judge_sound(
     }
     let kind = said.kind;
     match kind {
-        2 | 4 => ranked_verdict(loopbytes, n, m, certificate, kind, said.ms, rank),
-        3 => exclusion_verdict(loopbytes, n, m, certificate),
+        2 | 4 => judge_ranked(loopbytes, n, m, certificate, kind, said.ms, rank),
+        3 => judge_excluded(loopbytes, n, m, certificate),
         _ => refused(2, 4, 4),
     }
 }

@@ -39,7 +39,7 @@ use Rattle.judge.proofs.JudgedKinds.{outcome-is}
 use Rattle.judge.proofs.RankKinds.{by-number, as-ranking, as-lasso}
 use Rattle.judge.proofs.Sizes.{loop-kind, counts-are, lasso-long}
 use Rattle.judge.proofs.SoundContents.{lasso-of}
-use Rattle.judge_bound.specs.Told.{no-bound, StateFits, BoundFits}
+use Rattle.judge_bound.specs.Told.{no-bound, StateFits, BoundFits, Speaks-of, BoundShown}
 use Rattle.judge_bound.proofs.Ways.{refused-so, at-conditions, at-invariant}
 
 -- ---- rankings
@@ -102,7 +102,7 @@ module _ (loopbytes : List ℕ) (n m : ℕ) (l : LoopSound loopbytes n m) (certi
     lasso-there four = lasso-long loopbytes n m ms l certificates-bounded certificate (as-lasso c four) (c .ms-is)
 
     abbrev Starts : Type 0
-    Starts = number ≡ 4 → Lassos.Invariant (lasso-held certificate n m ms) state
+    Starts = Speaks-of certificate n m number ms state
 
     starts-told : Starts → first invariant call ≡ done
     unfolding bound-of invariant is-lasso kindOf
@@ -182,3 +182,11 @@ module _ (loopbytes : List ℕ) (n m : ℕ) (l : LoopSound loopbytes n m) (certi
         ranked-bounded starts =
             rw (agreed-so starts, kind-told, rank-is, by .start-is e, by .fall-is e)
             (ap (λ o. record { verdict = shows o; bound = Rankings.bound (rank-of p) (start-of p) (fall-of p) state }) (outcome-is (kindOf number) p (c .ranks)))
+
+      pub ranked-answers : (answer : Bounded) → BoundShown r entries n m certificate number ms state answer → answer ≡ bounds call
+      ranked-answers answer shown =
+          either (r .holds)
+          (λ e.
+          let told = shown .holds-so e in
+          either (told .spoken) (λ t. told .bounded t ∙ ranked-bounded e (told .decided .yes-holds t)) (λ f. told .outside f ∙ ranked-outside e (told .decided .no-fails f)))
+          (λ e. shown .fails e ∙ ranked-refused e)

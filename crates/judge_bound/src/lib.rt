@@ -1,6 +1,6 @@
 // Bound: how many steps a loop can take from a state, by a certificate that has a rank. Every input has an answer.
 ghost use mathlib.Core.Path.{_≡_};
-ghost use mathlib.Core.Bool.{cond};
+ghost use mathlib.Core.Bool.{true, cond};
 ghost use Prim.Native.Nat.{_+_, _/_, _<_, _≤_};
 ghost use lib.IntN.{pos, natAbs, _-ℤ_};
 ghost use lib.Signed.{ltZ, _<ℤ_};
@@ -12,7 +12,8 @@ ghost use Rattle.verdict.specs.Bounding.{bounds, bound-of, certificates-bounded
 ghost use Rattle.judge_conditions.specs.Whether.{Whether};
 ghost use Rattle.judge_lasso.specs.LassoHeld.{LassoIn, lasso-held};
 ghost use Rattle.judge.specs.Told.{LoopSound, RankSound};
-ghost use Rattle.judge_bound.specs.Told.{no-bound, StateFits, BoundFits};
+ghost use Rattle.judge_bound.specs.Told.{no-bound, StateFits, BoundFits, BoundShown};
+use judge_ranking::Ranked;
 use record::Wanted;
 use verdict::Bounded;
 
@@ -67,8 +68,35 @@ fn speaks_of(certificate: &[u8], n: usize, m: usize, kind: usize, ms: usize, sta
     meets_invariant(certificate, n, m, ms, state)
 }
 
-// Kinds 2 and 4, of sound records and a state in range.
+// The answer of a kind that has a rank, from what its conditions tell: its bound at a state in range.
 fn ranked_bound(
+    shown: Ranked,
+    entries: &[i64],
+    n: usize,
+    m: usize,
+    certificate: &[u8],
+    kind: usize,
+    ms: usize,
+    state: &[i64],
+) -> Bounded
+    requires { ⌜ (shown .holds ≡ true → BoundFits (now entries) n (shown .start) (shown .fall) (now state)) × (n ≤ 16)
+        × (kind ≡ 4 → LassoIn (now certificate) n m ms) × (length (now state) ≡ n) × Within 1048576 (now state) ⌝ }
+    ensures { λ r. ⌜ BoundShown shown (now (entries .entry)) n m (now (certificate .entry)) kind ms (now (state .entry)) r ⌝ }
+{
+    if !shown.holds {
+        return refused(2, 8, 0);
+    }
+    if !speaks_of(certificate, n, m, kind, ms, state) {
+        return refused(2, 11, 0);
+    }
+    Bounded {
+        verdict: judge::accepted(judge::rank_outcome(kind, shown.start, shown.fall)),
+        bound: bound_at(entries, n, shown.start, shown.fall, state),
+    }
+}
+
+// Kinds 2 and 4, of sound records and a state in range.
+fn bound_ranked(
     loopbytes: &[u8],
     n: usize,
     m: usize,
@@ -81,16 +109,31 @@ fn ranked_bound(
     ensures { λ r. ⌜ r ≡ bounds (bound-of (now (loopbytes .entry)) (now (certificate .entry)) (now (state .entry))) ⌝ }
 {
     let mut entries = [0i64; 16];
-    let shown = judge::rank_conditions(loopbytes, n, m, certificate, kind, ms, &mut entries);
-    if !shown.holds {
-        return refused(2, 8, 0);
-    }
-    if !speaks_of(certificate, n, m, kind, ms, state) {
-        return refused(2, 11, 0);
-    }
-    Bounded {
-        verdict: judge::accepted(judge::rank_outcome(kind, shown.start, shown.fall)),
-        bound: bound_at(&entries, n, shown.start, shown.fall, state),
+    match kind {
+        2 => {
+            let shown = judge_ranking::ranking(
+                loopbytes,
+                judge::FIRST_ROW,
+                n,
+                m,
+                certificate,
+                &mut entries,
+            );
+            ranked_bound(shown, &entries, n, m, certificate, kind, ms, state)
+        }
+        4 => {
+            let shown = judge_lasso::lasso(
+                loopbytes,
+                judge::FIRST_ROW,
+                n,
+                m,
+                certificate,
+                ms,
+                &mut entries,
+            );
+            ranked_bound(shown, &entries, n, m, certificate, kind, ms, state)
+        }
+        _ => refused(2, 4, 4),
     }
 }
 
@@ -114,7 +157,7 @@ fn bound_sound(loopbytes: &[u8], n: usize, m: usize, certificate: &[u8], state: 
     }
     let kind = said.kind;
     match kind {
-        2 | 4 => ranked_bound(loopbytes, n, m, certificate, kind, said.ms, state),
+        2 | 4 => bound_ranked(loopbytes, n, m, certificate, kind, said.ms, state),
         _ => refused(2, 4, 4),
     }
 }

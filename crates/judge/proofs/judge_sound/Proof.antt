@@ -63,16 +63,16 @@ returns c =
     let told = refused-so j (a .rank .now) 2 (v .number) (v .place) (at-certificate j (s checked .pre .told) _ _ (fault checked (c .before .if1 .taken))) in
     (c .refused .ensures ∙ told .0, told .1)
 
-ranked-verdict-requires : tie.Need-ranked-verdict-requires
-ranked-verdict-requires c κs =
+judge-ranked-requires : tie.Need-judge-ranked-requires
+judge-ranked-requires c κs =
     let arm = c .before in
     let passed = arm .before in
     let checked = passed .before .before in
     (s checked .pre, as-ranked checked (passed .if1 .left) (two-or-four _ (arm .match .keys1)))
 
-exclusion-verdict-requires : tie.Need-exclusion-verdict-requires
+judge-excluded-requires : tie.Need-judge-excluded-requires
 unfolding kindOf
-exclusion-verdict-requires c κs =
+judge-excluded-requires c κs =
     let passed = c .before in
     let checked = passed .before .before in
     (s checked .pre, as-kind checked (passed .if1 .left) exclusion (ap kindOf (c .match .keys2)))
@@ -89,7 +89,7 @@ returns-2 c = search needs
 returns-3 : tie.Need-returns-3
 returns-3 c =
     let checked = c .before .before .before .before in
-    c .exclusion-verdict .ensures (s checked .args .rank .now)
+    c .judge-excluded .ensures (s checked .args .rank .now)
 
 -- no other kind is left
 returns-4 : tie.Need-returns-4
@@ -107,8 +107,8 @@ judge-sound-spec =
     check-certificate-requires
     refused-requires
     returns
-    ranked-verdict-requires
-    exclusion-verdict-requires
+    judge-ranked-requires
+    judge-excluded-requires
     refused-requires-2
     same-length
     returns-2

@@ -98,8 +98,8 @@ returns-2 c =
     (at-state b (s checked .pre .told) (sound-so checked (passed .if1 .left)) _ _
     (ap (λ n. first state-tests (record { n = n; state = a .state .now })) (sym (s checked .pre .n-is)) ∙ told))
 
-ranked-bound-requires : tie.Need-ranked-bound-requires
-ranked-bound-requires c κs =
+bound-ranked-requires : tie.Need-bound-ranked-requires
+bound-ranked-requires c κs =
     let fits = c .before in
     let tested = fits .before .before in
     let passed = tested .before in
@@ -131,7 +131,7 @@ bound-sound-spec =
     state-fault-requires
     refused-requires-2
     returns-2
-    ranked-bound-requires
+    bound-ranked-requires
     refused-requires-3
     returns-3
     returns-4)

@@ -1,4 +1,4 @@
--- `judge::exclusion_verdict` meets its contract: each return is one way through judging. Assumes nothing.
+-- `judge::judge_excluded` meets its contract: each return is one way through judging. Assumes nothing.
 use mathlib.Core.Path.{_∙_}
 use native.Mathlib.Omega.{arith}
 use borrow.Author.Tests.{not-true, not-false}
@@ -6,8 +6,8 @@ use Rattle.verdict.specs.Judging.{certificates-judged}
 use Rattle.judge.proofs.JudgedKinds.{exclusion-refused, exclusion-accepted}
 use Rattle.judge.proofs.Sizes.{n-few, rows-in, exclusion-long}
 use borrow.Author.Needs.{needs}
-use Rattle.judge.proofs.exclusion_verdict.Statement.{statement}
-use Rattle.judge.proofs.exclusion_verdict.Tie as tie
+use Rattle.judge.proofs.judge_excluded.Statement.{statement}
+use Rattle.judge.proofs.judge_excluded.Tie as tie
 
 exclusion-requires : tie.Need-exclusion-requires
 exclusion-requires c κs =
@@ -56,8 +56,8 @@ returns-2 c =
     in
     (c .accepted .ensures ∙ rw (graded .grade .ensures, read .ensures .0) (told .0), told .1)
 
-pub exclusion-verdict-spec : {M : Type 1} → statement M
-exclusion-verdict-spec =
+pub judge-excluded-spec : {M : Type 1} → statement M
+judge-excluded-spec =
     tie.close
     (tie.spec
     exclusion-requires
