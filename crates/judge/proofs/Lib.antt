@@ -1,6 +1,6 @@
-pub mod Held
-pub mod Sizes
-pub mod Ways
+pub mod HeldInBytes
+pub mod JudgedSizes
+pub mod JudgingWays
 pub mod RankKinds
 pub mod SoundContents
 pub mod JudgedKinds
