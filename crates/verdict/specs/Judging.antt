@@ -25,10 +25,7 @@ pub record Judging : Type 0 where
   pub room : ℕ
 
 unfoldable pub rank-room : List (Test Judging)
-rank-room =
-    (7 at (λ j. variables-of (j .records))
-    unless λ j. not (has-rank (kind-of (j .records))) || leb (variables-of (j .records)) (j .room))
-    ∷ []
+rank-room = (7 at (λ j. variables-of (j .records)) unless λ j. not (has-rank (kind-of (j .records))) || leb (variables-of (j .records)) (j .room)) ∷ []
 
 unfoldable pub judging : List (Stage Judging)
 judging =
