@@ -1,6 +1,6 @@
-pub mod HeldInBytes
-pub mod JudgedSizes
-pub mod JudgingWays
+pub mod Held
+pub mod Sizes
+pub mod Ways
 pub mod RankKinds
 pub mod SoundContents
 pub mod JudgedKinds

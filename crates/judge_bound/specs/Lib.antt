@@ -1,2 +1,2 @@
 -- what the bound's functions know of the state
-pub mod BoundReady
+pub mod Told

@@ -1,5 +1,4 @@
--- What the tests of a ranking's conditions tell: whether they hold, and what is then shown: start, fall, and the rank in the front
--- of a list.
+-- What the tests of a ranking's conditions tell: whether they hold, and what is then shown: start, fall, and the rank in the front of a list.
 use Prim.Native.Nat.{ℕ, _+_, _<_}
 use mathlib.Core.Path.{_≡_}
 use mathlib.Core.Bool.{Bool, true, false}
@@ -61,8 +60,8 @@ pub record Shows (y-right z-right : ℤ) (r : Ranked) : Type 0 where
   pub fall-is : r .holds ≡ true → r .fall ≡ negℤ z-right
   pub otherwise : r .holds ≡ false → r ≡ nothing
 
--- whether some conditions hold; and then start and fall of a ranking of a loop, and the rank in the front of a list. Otherwise
--- nothing is shown, and the list stays
+-- whether some conditions hold; and then start and fall of a ranking of a loop, and the rank in the front of a list. Otherwise nothing is shown, and the list
+-- stays
 pub record RankedBy (r : Ranked) (Conditions : Type 0) (loop : Loop) (c : Ranking) (before after : List ℤ) : Type 0 where
   pub decided : Whether (r .holds) Conditions
   pub start-is : r .holds ≡ true → r .start ≡ start loop c

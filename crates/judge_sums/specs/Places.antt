@@ -1,6 +1,5 @@
--- The numbers of a judge's sums by their places in the records' bytes, and the terms that the sums are made of (01, "Records on
--- file" and "Conditions"). Rows over n variables lie one after another from `start` on, each n entries of A, n of A' and b;
--- multipliers lie one after another from `place` on.
+-- The numbers of a judge's sums by their places in the records' bytes, and the terms that the sums are made of (01, "Records on file" and "Conditions").
+-- Rows over n variables lie one after another from `start` on, each n entries of A, n of A' and b; multipliers lie one after another from `place` on.
 use Prim.Native.Nat.{ℕ, _+_, _*_, _≤_, _<_}
 use mathlib.Core.List.{List}
 use mathlib.Core.Path.{_≡_}
@@ -23,22 +22,22 @@ unfoldable pub multiplierAt : List ℕ → ℕ → ℤ
 multiplierAt bytes place = pos (littleAt 2 bytes place)
 
 -- where row i starts
-abbrev pub row-place : ℕ → ℕ → ℕ → ℕ
-row-place start n i = start + i * (4 * n + 4)
+abbrev pub rowAt : ℕ → ℕ → ℕ → ℕ
+rowAt start n i = start + i * (4 * n + 4)
 
 -- ---- terms: of row i in a sum over rows, of column j in a sum along a row
 
 -- multiplier times entry j of A
 unfoldable pub nowTerm : List ℕ → ℕ → List ℕ → ℕ → ℕ → ℕ → ℕ → ℤ
-nowTerm multipliers place rows start n j i = multiplierAt multipliers (place + 2 * i) *ℤ entryAt rows (row-place start n i + 2 * j)
+nowTerm multipliers place rows start n j i = multiplierAt multipliers (place + 2 * i) *ℤ entryAt rows (rowAt start n i + 2 * j)
 
 -- multiplier times entry j of A'
 unfoldable pub nextTerm : List ℕ → ℕ → List ℕ → ℕ → ℕ → ℕ → ℕ → ℤ
-nextTerm multipliers place rows start n j i = multiplierAt multipliers (place + 2 * i) *ℤ entryAt rows (row-place start n i + (2 * n + 2 * j))
+nextTerm multipliers place rows start n j i = multiplierAt multipliers (place + 2 * i) *ℤ entryAt rows (rowAt start n i + (2 * n + 2 * j))
 
 -- multiplier times b
 unfoldable pub rightTerm : List ℕ → ℕ → List ℕ → ℕ → ℕ → ℕ → ℤ
-rightTerm multipliers place rows start n i = multiplierAt multipliers (place + 2 * i) *ℤ rightAt rows (row-place start n i + 4 * n)
+rightTerm multipliers place rows start n i = multiplierAt multipliers (place + 2 * i) *ℤ rightAt rows (rowAt start n i + 4 * n)
 
 -- entry times entry: of A or A' from `entries` on, and of U, V or W from `place` on
 unfoldable pub alongTerm : List ℕ → ℕ → List ℕ → ℕ → ℕ → ℤ
@@ -93,7 +92,7 @@ pub record ColumnOf (multipliers : List ℕ) (place : ℕ) (rows : List ℕ) (st
 
 -- multiplier times entry k, and times the lift
 unfoldable pub entryTerm : List ℕ → ℕ → List ℕ → ℕ → ℕ → ℕ → ℕ → ℤ
-entryTerm multipliers place rows start n k i = multiplierAt multipliers (place + 2 * i) *ℤ entryAt rows (row-place start n i + 2 * k)
+entryTerm multipliers place rows start n k i = multiplierAt multipliers (place + 2 * i) *ℤ entryAt rows (rowAt start n i + 2 * k)
 
 unfoldable pub liftTerm : List ℕ → ℕ → ℕ → ℤ
 liftTerm multipliers place i = multiplierAt multipliers (place + 2 * i) *ℤ pos 32768

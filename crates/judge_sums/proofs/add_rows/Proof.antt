@@ -3,7 +3,7 @@ use Prim.Native.Nat.{_+_, _*_, _-_, _≤_, _<_}
 use mathlib.Core.Path.{_≡_}
 use native.Mathlib.Omega.{arith}
 use lib.ListN.{length}
-use Rattle.judge_sums.specs.Places.{row-place, RestStays, SumsOf}
+use Rattle.judge_sums.specs.Places.{rowAt, RestStays, SumsOf}
 use Rattle.judge_sums.proofs.ColumnLaws.{row-inside}
 use Rattle.judge_sums.proofs.LiftLaws.{rest-none, rest-more, sums-none, sums-more, sums-grow}
 use borrow.Author.Needs.{needs}
@@ -12,7 +12,7 @@ use Rattle.judge_sums.proofs.add_rows.Tie as tie
 
 abbrev Inv-loop : tie.InvT-loop
 Inv-loop ys₀ zs₀ rows start n multipliers y z count stride at₀ i₀ ys zs at i =
-    (i ≤ count) × (at ≡ row-place start n i) × RestStays (2 * n) ys₀ ys × RestStays (2 * n) zs₀ zs
+    (i ≤ count) × (at ≡ rowAt start n i) × RestStays (2 * n) ys₀ ys × RestStays (2 * n) zs₀ zs
     × SumsOf multipliers y rows start n i ys × SumsOf multipliers z rows start n i zs
 
 abbrev μ-loop : tie.MeasureT-loop
@@ -20,7 +20,7 @@ abbrev μ-loop : tie.MeasureT-loop
 
 -- the row of this turn lies within the bytes
 inside : (c : tie.In-loop Inv-loop μ-loop)
-    → let args = c .before .before .before .before .args in row-place (args .start) (args .n) (c .before .loop .i + 1) ≤ length (args .rows .now)
+    → let args = c .before .before .before .before .args in rowAt (args .start) (args .n) (c .before .loop .i + 1) ≤ length (args .rows .now)
 inside c =
     let start = c .before .before .before .before in
     row-inside (start .args .rows .now) (start .args .start) (start .args .n) (start .args .count) (c .before .loop .i) (start .pre .4) (c .loop-test .taken)

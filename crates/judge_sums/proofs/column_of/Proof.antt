@@ -3,7 +3,7 @@ use Prim.Native.Nat.{_+_, _-_, _≤_}
 use mathlib.Core.Path.{_≡_}
 use native.Mathlib.Omega.{arith}
 use lib.ListN.{length}
-use Rattle.judge_sums.specs.Places.{row-place, ColumnOf}
+use Rattle.judge_sums.specs.Places.{rowAt, ColumnOf}
 use Rattle.judge_sums.proofs.ColumnLaws.{row-inside, column-none, column-more}
 use borrow.Author.Needs.{needs}
 use Rattle.judge_sums.proofs.column_of.Statement.{statement}
@@ -11,14 +11,14 @@ use Rattle.judge_sums.proofs.column_of.Tie as tie
 
 abbrev Inv-loop : tie.InvT-loop
 Inv-loop rows start n j multipliers place count stride first second column₀ at₀ i₀ column at i =
-    (i ≤ count) × (at ≡ row-place start n i) × ColumnOf multipliers place rows start n j i (column .now .sum) (column .next .sum)
+    (i ≤ count) × (at ≡ rowAt start n i) × ColumnOf multipliers place rows start n j i (column .now .sum) (column .next .sum)
 
 abbrev μ-loop : tie.MeasureT-loop
 μ-loop rows start n j multipliers place count stride first second column₀ at₀ i₀ column at i = count - i
 
 -- the row of this turn lies within the bytes
 inside : (c : tie.In-loop Inv-loop μ-loop)
-    → let args = c .before .before .before .before .before .args in row-place (args .start) (args .n) (c .before .loop .i + 1) ≤ length (args .rows .now)
+    → let args = c .before .before .before .before .before .args in rowAt (args .start) (args .n) (c .before .loop .i + 1) ≤ length (args .rows .now)
 inside c =
     let start = c .before .before .before .before .before in
     row-inside (start .args .rows .now) (start .args .start) (start .args .n) (start .args .count) (c .before .loop .i) (start .pre .0) (c .loop-test .taken)

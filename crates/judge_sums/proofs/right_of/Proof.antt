@@ -3,7 +3,7 @@ use Prim.Native.Nat.{_+_, _-_, _≤_}
 use mathlib.Core.Path.{_≡_}
 use native.Mathlib.Omega.{arith}
 use lib.ListN.{length}
-use Rattle.judge_sums.specs.Places.{multiplierAt, row-place, rightTerm, mostRight}
+use Rattle.judge_sums.specs.Places.{multiplierAt, rowAt, rightTerm, mostRight}
 use Rattle.judge_sums.specs.Running.{SumOf}
 use Rattle.judge_sums.proofs.ColumnLaws.{row-inside}
 use Rattle.judge_sums.proofs.RunningLaws.{sum-none, sum-more}
@@ -13,14 +13,14 @@ use Rattle.judge_sums.proofs.right_of.Tie as tie
 
 abbrev Inv-loop : tie.InvT-loop
 Inv-loop rows start n multipliers place count stride right total₀ at₀ i₀ total at i =
-    (i ≤ count) × (at ≡ row-place start n i) × SumOf i mostRight (rightTerm multipliers place rows start n) (total .sum)
+    (i ≤ count) × (at ≡ rowAt start n i) × SumOf i mostRight (rightTerm multipliers place rows start n) (total .sum)
 
 abbrev μ-loop : tie.MeasureT-loop
 μ-loop rows start n multipliers place count stride right total₀ at₀ i₀ total at i = count - i
 
 -- the row of this turn lies within the bytes
 inside : (c : tie.In-loop Inv-loop μ-loop)
-    → let args = c .before .before .before .before .before .args in row-place (args .start) (args .n) (c .before .loop .i + 1) ≤ length (args .rows .now)
+    → let args = c .before .before .before .before .before .args in rowAt (args .start) (args .n) (c .before .loop .i + 1) ≤ length (args .rows .now)
 inside c =
     let start = c .before .before .before .before .before in
     row-inside (start .args .rows .now) (start .args .start) (start .args .n) (start .args .count) (c .before .loop .i) (start .pre .0) (c .loop-test .taken)
