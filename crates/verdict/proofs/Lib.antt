@@ -4,7 +4,7 @@ pub mod BoundAnswers
 pub mod Demands
 pub mod InValues
 pub mod OutcomeNumbers
-pub mod SoundParts
+pub mod Parts
 pub mod RefusedCalls
 pub mod SampleSheet
 pub mod StageLaws

@@ -18,7 +18,7 @@ use Rattle.record.specs.Readers.{Reader, kind, counts-read}
 use Rattle.record.proofs.SoundRecords.{Sound}
 use Rattle.theory.specs.Lassos.{added, longer}
 use Rattle.verdict.specs.Contents.{loop-in, ranking-in, exclusion-in, lasso-in, parts}
-use Rattle.verdict.proofs.SoundParts.{counts-in, loop-parts, ranking-parts, exclusion-parts, lasso-parts}
+use Rattle.verdict.proofs.Parts.{counts-in, loop-parts, ranking-parts, exclusion-parts, lasso-parts}
 use Rattle.verdict.proofs.SumsFit.{Row-small, row-small, Weights, small-multipliers, Ranking-sums-fit, sums-fit, Exclusion-small, Exclusion-sums-fit, exclusion-sums-fit, small-directions, small-entries, small-right, Lasso-small, Lasso-sums-fit, lasso-sums-fit}
 
 -- a natural number of a range
