@@ -1,6 +1,6 @@
-pub mod Held
-pub mod Sizes
-pub mod Ways
+pub mod HeldByPlaces
+pub mod SoundSizes
+pub mod JudgingWays
 pub mod RankKinds
 pub mod SoundContents
 pub mod JudgedKinds

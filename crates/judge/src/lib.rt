@@ -1,4 +1,5 @@
-// Judge: whether a certificate's bytes prove what they claim of a loop's bytes. Every input has an answer; a refusal changes nothing that was lent.
+// Judge: whether a certificate's bytes prove what they claim of a loop's bytes. Every input has an answer; a refusal changes nothing
+// that was lent.
 ghost use mathlib.Core.Path.{_≡_};
 ghost use lib.IntN.{ℤ};
 ghost use mathlib.Core.List.{List};
@@ -6,7 +7,7 @@ ghost use Rattle.record.specs.Layouts.{exclusion, kindOf};
 ghost use Rattle.verdict.specs.Judging.{judges, rank-after, judge-of, certificates-judged};
 ghost use Rattle.verdict.specs.Outcomes.{grade-of};
 ghost use Rattle.verdict.specs.Stages.{shows, refusal-of};
-ghost use Rattle.judge.specs.Told.{LoopSound, CertificateSound, RankSound, rank-outcome, verdict-shown, Judged};
+ghost use Rattle.judge.specs.SoundRecords.{LoopSound, CertificateSound, RankSound, rank-outcome, verdict-shown, Judged};
 use judge_ranking::Ranked;
 use record::Wanted;
 use verdict::Grade;

@@ -32,15 +32,16 @@ use Rattle.verdict.proofs.Accepted.{ranking-conditions, lasso-conditions}
 use Rattle.verdict.proofs.BoundAnswers.{invariant-holds}
 use Rattle.verdict.proofs.StatesInRange.{State-in, state-fits}
 use Rattle.verdict.proofs.StageLaws.{agrees-said}
-use Rattle.verdict.proofs.SumsFit.{Ranking-sums-fit, small-state}
+use Rattle.verdict.proofs.SumsFit.{Ranking-sums-fit}
+use Rattle.verdict.proofs.SmallSums.{small-state}
 use Rattle.verdict.proofs.SumsFitInBytes.{ranking-sums-fit, lasso-sums-fit-in}
-use Rattle.judge.specs.Told.{LoopSound, RankSound, RankedOf, rank-outcome}
+use Rattle.judge.specs.SoundRecords.{LoopSound, RankSound, RankedOf, rank-outcome}
 use Rattle.judge.proofs.JudgedKinds.{outcome-is}
 use Rattle.judge.proofs.RankKinds.{by-number, as-ranking, as-lasso}
-use Rattle.judge.proofs.Sizes.{loop-kind, counts-are, lasso-long}
+use Rattle.judge.proofs.SoundSizes.{loop-kind, counts-are, lasso-long}
 use Rattle.judge.proofs.SoundContents.{lasso-of}
-use Rattle.judge_bound.specs.Told.{no-bound, StateFits, BoundFits, Speaks-of, BoundShown}
-use Rattle.judge_bound.proofs.Ways.{refused-so, at-conditions, at-invariant}
+use Rattle.judge_bound.specs.BoundShown.{no-bound, StateFits, BoundFits, Speaks-of, BoundShown}
+use Rattle.judge_bound.proofs.BoundingWays.{refused-so, at-conditions, at-invariant}
 
 -- ---- rankings
 

@@ -1,4 +1,4 @@
 pub mod StepLaws
-pub mod Ways
+pub mod BoundingWays
 pub mod BoundedKinds
 pub mod OneAnswer

@@ -1,2 +1,2 @@
--- what the bound's functions know of the state
-pub mod Told
+-- what the bound's functions know of the state, and what they show
+pub mod BoundShown

@@ -1,5 +1,5 @@
--- The loop whose rows lie in bytes from a start on (01, "Records on file"). The judge's code reads these places; crate `judge` shows that those of a loop record
--- are the loop of crate `verdict`.
+-- The loop whose rows lie in bytes from a start on (01, "Records on file"). The judge's code reads these places; crate `judge` shows
+-- that those of a loop record are the loop of crate `verdict`.
 use Prim.Native.Nat.{ℕ}
 use mathlib.Core.List.{List}
 use Rattle.judge_sums.specs.Lists.{rowsFrom}

@@ -16,7 +16,7 @@ use Rattle.whole.proofs.EachLaws.{each-at}
 use Rattle.whole.proofs.Tables.{length-tabulate, tabulate-at, each-tabulate}
 use Rattle.endian.specs.Numbers.{littleAt}
 use Rattle.judge_sums.specs.Lists.{rowFrom, rowsFrom}
-use Rattle.judge_sums.specs.Places.{rightAt, rowAt, directionOf, stepOf}
+use Rattle.judge_sums.specs.Places.{rightAt, rowPlace, directionOf, stepOf}
 use Rattle.judge_sums.specs.Running.{CanGrow}
 use Rattle.judge_sums.proofs.ListLaws.{direction-dot, step-dot}
 use Rattle.theory.specs.Exclusions.{ExclusionHolds}
@@ -57,7 +57,7 @@ module _ (rows : List ℕ) (row n : ℕ) (certificate : List ℕ) (direction ste
 
 module _ (rows certificate : List ℕ) (start n m : ℕ) where
   abbrev At : ℕ → Type 0
-  At i = RowExcluded (exclusion-held certificate n) (rowFrom rows n (rowAt start n i))
+  At i = RowExcluded (exclusion-held certificate n) (rowFrom rows n (rowPlace start n i))
 
   pub rows-hold : ((i : ℕ) → i < m → At i) → ExclusionHolds (loop-held rows start n m) (exclusion-held certificate n)
   unfolding loop-held rowsFrom
@@ -66,7 +66,7 @@ module _ (rows certificate : List ℕ) (start n m : ℕ) where
   pub row-holds : ExclusionHolds (loop-held rows start n m) (exclusion-held certificate n) → (i : ℕ) → i < m → At i
   unfolding loop-held rowsFrom
   row-holds h i below =
-      let row : ℕ → Row = λ i. rowFrom rows n (rowAt start n i) in
+      let row : ℕ → Row = λ i. rowFrom rows n (rowPlace start n i) in
       let inside : i < length (tabulate m row) = rw length-tabulate below in
       let none : Row = record { now = []; next = []; right = pos 0 } in
       record {

@@ -1,4 +1,5 @@
-// Whether an exclusion's conditions hold (01, "Conditions": at every row A·V + A'·U <= 0, and A·(W - V) + A'·W <= q·b), from the bytes of sound records.
+// Whether an exclusion's conditions hold (01, "Conditions": at every row A·V + A'·U <= 0, and A·(W - V) + A'·W <= q·b), from the bytes
+// of sound records.
 ghost use Prim.Native.Nat.{_+_, _*_, _≤_};
 ghost use lib.ListN.{length};
 ghost use Rattle.theory.specs.Exclusions.{ExclusionHolds};

@@ -1,5 +1,5 @@
--- Start and kept have one shape: rows weighted by `ws` carry the invariant s·x + s0 >= 0 from h times itself before a step to k times itself after it;
--- h is 0 at the start.
+-- Start and kept have one shape: rows weighted by `ws` carry the invariant s·x + s0 >= 0 from h times itself before a step to k times
+-- itself after it; h is 0 at the start.
 use Prim.Native.Nat.{ℕ, _<_}
 use mathlib.Core.Path.{_≡_}
 use mathlib.Core.List.{List}

@@ -1,4 +1,5 @@
-// Whether weighted rows carry an invariant s·x + s0 >= 0 (01, "Lasso": start and kept, which have one shape), from the bytes of sound records.
+// Whether weighted rows carry an invariant s·x + s0 >= 0 (01, "Lasso": start and kept, which have one shape), from the bytes of sound
+// records.
 ghost use mathlib.Core.Path.{_≡_};
 ghost use Prim.Native.Nat.{_+_, _*_, _≤_, _<_};
 ghost use lib.IntN.{pos, negℤ, natAbs, _+ℤ_, _*ℤ_};
@@ -38,7 +39,8 @@ fn column_carried(
 ) -> bool
     requires { ⌜ RowsIn (now rows) start n count × (j < n) × (count ≤ 64) × MultipliersIn (now certificate) place count
         × (s + 2 * n ≤ length (now certificate)) × (s < 65536) × (n ≤ 16) × (h < 65536) × (k < 65536) ⌝ }
-    ensures { λ r. ⌜ Whether r (CarriedAt (rowsFrom (now (rows .entry)) n start count) (multipliersFrom (now (certificate .entry)) place count)
+    ensures { λ r. ⌜ Whether r (CarriedAt (rowsFrom (now (rows .entry)) n start count)
+        (multipliersFrom (now (certificate .entry)) place count)
         (entriesFrom (now (certificate .entry)) s n) h k j) ⌝ }
 {
     let column = judge_sums::column_of(rows, start, n, j, certificate, place, count);
@@ -72,7 +74,8 @@ pub fn carried(
 ) -> bool
     requires { ⌜ RowsIn (now rows) start n count × (count ≤ 64) × MultipliersIn (now certificate) place count
         × (s + 2 * n + 4 ≤ length (now certificate)) × (s < 65536) × (n ≤ 16) × (h < 65536) × (k < 65536) ⌝ }
-    ensures { λ r. ⌜ Whether r (Carried n (rowsFrom (now (rows .entry)) n start count) (multipliersFrom (now (certificate .entry)) place count)
+    ensures { λ r. ⌜ Whether r (Carried n (rowsFrom (now (rows .entry)) n start count)
+        (multipliersFrom (now (certificate .entry)) place count)
         (entriesFrom (now (certificate .entry)) s n) (rightAt (now (certificate .entry)) (s + 2 * n)) h k) ⌝ }
 {
     for j in 0..n {

@@ -1,5 +1,5 @@
-// Whether a lasso's conditions hold (01, "Lasso": start, kept, and the ranking over the loop with the added row -s·x <= s0), from the bytes of sound records,
-// and what it then shows.
+// Whether a lasso's conditions hold (01, "Lasso": start, kept, and the ranking over the loop with the added row -s·x <= s0), from the
+// bytes of sound records, and what it then shows.
 ghost use Prim.Native.Nat.{_≤_};
 ghost use lib.ListN.{length};
 ghost use Rattle.judge_sums.specs.Places.{RowsIn};
@@ -62,7 +62,8 @@ pub fn lasso(
     rank: &mut [i64],
 ) -> Ranked
     requires { ⌜ RowsIn (now rows) start n m × LassoIn (now certificate) n m ms × (n ≤ length (now rank)) ⌝ }
-    ensures { λ r. ⌜ LassoBy r (loop-held (now (rows .entry)) start n m) (lasso-held (now (certificate .entry)) n m ms) (now (rank .entry)) (now (rank .exit)) ⌝ }
+    ensures { λ r. ⌜ LassoBy r (loop-held (now (rows .entry)) start n m) (lasso-held (now (certificate .entry)) n m ms)
+        (now (rank .entry)) (now (rank .exit)) ⌝ }
 {
     if !starts(certificate, n, m, ms) {
         return judge_ranking::fails();

@@ -13,7 +13,8 @@ use Rattle.judge_conditions.specs.LoopHeld.{loop-held}
 -- the loop with the row -s·x <= right added at the end, where s lies in a certificate from a place on: a lasso's has right side s0
 unfoldable pub longer-held : List ℕ → ℕ → ℕ → ℕ → List ℕ → ℕ → ℤ → Loop
 longer-held rows start n m certificate s right =
-    withRow (loop-held rows start n m) (record { now = scale (negsuc 0) (entriesFrom certificate s n); next = replicate n (pos 0); right = right })
+    withRow (loop-held rows start n m)
+    (record { now = scale (negsuc 0) (entriesFrom certificate s n); next = replicate n (pos 0); right = right })
 
 -- the first n of a list of totals, each less a multiplier times an entry of s, which lies from a place on; the others stay
 pub record RowTaken (multiplier : ℕ) (certificate : List ℕ) (s n : ℕ) (before after : List ℤ) : Type 0 where

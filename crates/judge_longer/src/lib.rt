@@ -1,5 +1,5 @@
-// A ranking over a loop with one row added at the end (01, "Lasso"): the loop's totals, and the added row's terms. The row is -s·x <= right: minus the
-// entries that lie from a place on, and a right side, which comes as a value (s0 of a lasso).
+// A ranking over a loop with one row added at the end (01, "Lasso"): the loop's totals, and the added row's terms. The row is -s·x <=
+// right: minus the entries that lie from a place on, and a right side, which comes as a value (s0 of a lasso).
 ghost use mathlib.Core.Path.{_≡_};
 ghost use Prim.Native.Nat.{ℕ, _+_, _*_, _≤_, _<_};
 ghost use lib.IntN.{ℤ, pos, natAbs, _+ℤ_, _-ℤ_, _*ℤ_};
@@ -27,7 +27,8 @@ fn less_times(total: i64, k: usize, z: i64) -> i64
 
 // The added row, whose entries are minus those from a place on: each of the first n totals less the row's multiplier times its entry.
 fn take_row(sums: &mut [i64], n: usize, multiplier: usize, certificate: &[u8], s: usize)
-    requires { ⌜ (n ≤ length (now sums)) × AllModest n (now sums) × (multiplier < 65536) × (s < 65536) × (n ≤ 16) × (s + 2 * n ≤ length (now certificate)) ⌝ }
+    requires { ⌜ (n ≤ length (now sums)) × AllModest n (now sums) × (multiplier < 65536) × (s < 65536) × (n ≤ 16)
+        × (s + 2 * n ≤ length (now certificate)) ⌝ }
     ensures { λ _. ⌜ RowTaken multiplier (now (certificate .entry)) s n (now (sums .entry)) (now (sums .exit)) ⌝ }
 {
     for j in 0..n {
@@ -55,7 +56,8 @@ fn longer_right(
 ) -> Total
     requires { ⌜ RowsIn (now rows) start n m × (m ≤ 64) × (n ≤ 16) × (place < 131072)
         × (place + 2 * (m + 1) ≤ length (now certificate)) × (natAbs right ≤ 2147483648) ⌝ }
-    ensures { λ r. ⌜ ((s : ℕ) → r .sum ≡ sum (multipliersFrom (now (certificate .entry)) place (m + 1)) b (longer-held (now (rows .entry)) start n m (now (certificate .entry)) s right .rows))
+    ensures { λ r. ⌜ ((s : ℕ) → r .sum ≡ sum (multipliersFrom (now (certificate .entry)) place (m + 1)) b
+        (longer-held (now (rows .entry)) start n m (now (certificate .entry)) s right .rows))
         × CanGrow (r .sum) ⌝ }
 {
     let total = judge_sums::right_of(rows, start, n, certificate, place, m);
@@ -76,7 +78,8 @@ fn longer_columns(
 ) -> bool
     requires { ⌜ RowsIn (now rows) start n m × (m ≤ 64) × (n ≤ 16) × (place < 65536) × (s < 65536)
         × (place + 4 * (m + 1) ≤ length (now certificate)) × (s + 2 * n ≤ length (now certificate)) × (n ≤ length (now rank)) ⌝ }
-    ensures { λ r. ⌜ ((right : ℤ) → ColumnsBy r (longer-held (now (rows .entry)) start n m (now (certificate .entry)) s right) (ranking-held (now (certificate .entry)) place (m + 1))
+    ensures { λ r. ⌜ ((right : ℤ) → ColumnsBy r (longer-held (now (rows .entry)) start n m (now (certificate .entry)) s right)
+        (ranking-held (now (certificate .entry)) place (m + 1))
         (now (rank .entry)) (now (rank .exit))) ⌝ }
 {
     let z = place + 2 * (m + 1);
@@ -115,8 +118,10 @@ pub fn longer_ranking(
     rank: &mut [i64],
 ) -> Ranked
     requires { ⌜ RowsIn (now rows) start n m × (m ≤ 64) × (n ≤ 16) × (place < 65536) × (s < 65536)
-        × (place + 4 * (m + 1) ≤ length (now certificate)) × (s + 2 * n ≤ length (now certificate)) × (natAbs right ≤ 2147483648) × (n ≤ length (now rank)) ⌝ }
-    ensures { λ r. ⌜ RankingBy r (longer-held (now (rows .entry)) start n m (now (certificate .entry)) s right) (ranking-held (now (certificate .entry)) place (m + 1))
+        × (place + 4 * (m + 1) ≤ length (now certificate)) × (s + 2 * n ≤ length (now certificate)) × (natAbs right ≤ 2147483648)
+        × (n ≤ length (now rank)) ⌝ }
+    ensures { λ r. ⌜ RankingBy r (longer-held (now (rows .entry)) start n m (now (certificate .entry)) s right)
+        (ranking-held (now (certificate .entry)) place (m + 1))
         (now (rank .entry)) (now (rank .exit)) ⌝ }
 {
     let yb = longer_right(rows, start, n, m, certificate, place, right);

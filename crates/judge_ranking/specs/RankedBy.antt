@@ -1,4 +1,5 @@
--- What the tests of a ranking's conditions tell: whether they hold, and what is then shown: start, fall, and the rank in the front of a list.
+-- What the tests of a ranking's conditions tell: whether they hold, and what is then shown: start, fall, and the rank in the front of a
+-- list.
 use Prim.Native.Nat.{ℕ, _+_, _<_}
 use mathlib.Core.Path.{_≡_}
 use mathlib.Core.Bool.{Bool, true, false}
@@ -19,12 +20,15 @@ pub record ColumnHolds (y-now y-next z-now z-next : ℤ) : Type 0 where
   pub third : z-now +ℤ z-next ≡ pos 0
 
 abbrev pub ColumnAt : Loop → Ranking → ℕ → Type 0
-ColumnAt loop c j = ColumnHolds (sum (c .Y) (A j) (loop .rows)) (sum (c .Y) (A′ j) (loop .rows)) (sum (c .Z) (A j) (loop .rows)) (sum (c .Z) (A′ j) (loop .rows))
+ColumnAt loop c j =
+    ColumnHolds (sum (c .Y) (A j) (loop .rows)) (sum (c .Y) (A′ j) (loop .rows))
+    (sum (c .Z) (A j) (loop .rows)) (sum (c .Z) (A′ j) (loop .rows))
 
 -- column j of lists of lifted totals, n over A and then n over A', meets them
 abbrev pub ColumnIn : List ℤ → ℤ → List ℤ → ℤ → ℕ → ℕ → Type 0
 ColumnIn ys ylift zs zlift n j =
-    ColumnHolds (getD ys j (pos 0) -ℤ ylift) (getD ys (n + j) (pos 0) -ℤ ylift) (getD zs j (pos 0) -ℤ zlift) (getD zs (n + j) (pos 0) -ℤ zlift)
+    ColumnHolds (getD ys j (pos 0) -ℤ ylift) (getD ys (n + j) (pos 0) -ℤ ylift)
+    (getD zs j (pos 0) -ℤ zlift) (getD zs (n + j) (pos 0) -ℤ zlift)
 
 -- total j over A' in such a list
 abbrev pub nextIn : List ℤ → ℤ → ℕ → ℕ → ℤ
@@ -34,8 +38,10 @@ nextIn sums lift n j = getD sums (n + j) (pos 0) -ℤ lift
 abbrev pub Totalled : List ℤ → ℤ → List ℤ → ℤ → Loop → Ranking → Type 0
 Totalled ys ylift zs zlift loop c =
     (j : ℕ) → j < loop .variables
-    → (getD ys j (pos 0) -ℤ ylift ≡ sum (c .Y) (A j) (loop .rows)) × (getD ys (loop .variables + j) (pos 0) -ℤ ylift ≡ sum (c .Y) (A′ j) (loop .rows))
-    × (getD zs j (pos 0) -ℤ zlift ≡ sum (c .Z) (A j) (loop .rows)) × (getD zs (loop .variables + j) (pos 0) -ℤ zlift ≡ sum (c .Z) (A′ j) (loop .rows))
+    → (getD ys j (pos 0) -ℤ ylift ≡ sum (c .Y) (A j) (loop .rows))
+    × (getD ys (loop .variables + j) (pos 0) -ℤ ylift ≡ sum (c .Y) (A′ j) (loop .rows))
+    × (getD zs j (pos 0) -ℤ zlift ≡ sum (c .Z) (A j) (loop .rows))
+    × (getD zs (loop .variables + j) (pos 0) -ℤ zlift ≡ sum (c .Z) (A′ j) (loop .rows))
 
 -- whether all columns of such lists meet them; and then the totals of Z over A' are put into the front of a list, which stays otherwise
 pub record RanksBy (holds : Bool) (ys : List ℤ) (ylift : ℤ) (zs : List ℤ) (zlift : ℤ) (n : ℕ) (before after : List ℤ) : Type 0 where
@@ -60,8 +66,8 @@ pub record Shows (y-right z-right : ℤ) (r : Ranked) : Type 0 where
   pub fall-is : r .holds ≡ true → r .fall ≡ negℤ z-right
   pub otherwise : r .holds ≡ false → r ≡ nothing
 
--- whether some conditions hold; and then start and fall of a ranking of a loop, and the rank in the front of a list. Otherwise nothing is shown, and the list
--- stays
+-- whether some conditions hold; and then start and fall of a ranking of a loop, and the rank in the front of a list. Otherwise nothing
+-- is shown, and the list stays
 pub record RankedBy (r : Ranked) (Conditions : Type 0) (loop : Loop) (c : Ranking) (before after : List ℤ) : Type 0 where
   pub decided : Whether (r .holds) Conditions
   pub start-is : r .holds ≡ true → r .start ≡ start loop c

@@ -1,5 +1,6 @@
-// Whether a ranking's conditions hold (01, "Conditions": YA' = 0; (Y - Z)A = 0; Z(A + A') = 0; Zb < 0), from the bytes of sound records, and what it
-// then shows. All but `loop_columns` and `ranking` speak of totals alone, so they serve every ranking: that of kind 2, and one over a longer loop.
+// Whether a ranking's conditions hold (01, "Conditions": YA' = 0; (Y - Z)A = 0; Z(A + A') = 0; Zb < 0), from the bytes of sound records,
+// and what it then shows. All but `loop_columns` and `ranking` speak of totals alone, so they serve every ranking: that of kind 2, and
+// one over a longer loop.
 ghost use mathlib.Core.Path.{_≡_};
 ghost use Prim.Native.Nat.{ℕ, _+_, _*_, _≤_, _<_};
 ghost use lib.IntN.{pos, natAbs, _-ℤ_};
@@ -119,8 +120,10 @@ fn loop_columns(
     certificate: &[u8],
     rank: &mut [i64],
 ) -> bool
-    requires { ⌜ RowsIn (now rows) start n m × (n ≤ 16) × (m ≤ 64) × MultipliersIn (now certificate) (6 + 2 * m) m × (n ≤ length (now rank)) ⌝ }
-    ensures { λ r. ⌜ ColumnsBy r (loop-held (now (rows .entry)) start n m) (ranking-held (now (certificate .entry)) 6 m) (now (rank .entry)) (now (rank .exit)) ⌝ }
+    requires { ⌜ RowsIn (now rows) start n m × (n ≤ 16) × (m ≤ 64) × MultipliersIn (now certificate) (6 + 2 * m) m
+        × (n ≤ length (now rank)) ⌝ }
+    ensures { λ r. ⌜ ColumnsBy r (loop-held (now (rows .entry)) start n m) (ranking-held (now (certificate .entry)) 6 m)
+        (now (rank .entry)) (now (rank .exit)) ⌝ }
 {
     let z = 6 + 2 * m;
     let mut ys = [0i64; 32];
@@ -156,8 +159,10 @@ pub fn ranking(
     certificate: &[u8],
     rank: &mut [i64],
 ) -> Ranked
-    requires { ⌜ RowsIn (now rows) start n m × (n ≤ 16) × (m ≤ 64) × MultipliersIn (now certificate) (6 + 2 * m) m × (n ≤ length (now rank)) ⌝ }
-    ensures { λ r. ⌜ RankingBy r (loop-held (now (rows .entry)) start n m) (ranking-held (now (certificate .entry)) 6 m) (now (rank .entry)) (now (rank .exit)) ⌝ }
+    requires { ⌜ RowsIn (now rows) start n m × (n ≤ 16) × (m ≤ 64) × MultipliersIn (now certificate) (6 + 2 * m) m
+        × (n ≤ length (now rank)) ⌝ }
+    ensures { λ r. ⌜ RankingBy r (loop-held (now (rows .entry)) start n m) (ranking-held (now (certificate .entry)) 6 m)
+        (now (rank .entry)) (now (rank .exit)) ⌝ }
 {
     let yb = judge_sums::right_of(rows, start, n, certificate, 6, m);
     let zb = judge_sums::right_of(rows, start, n, certificate, 6 + 2 * m, m);

@@ -7,11 +7,11 @@ use native.Mathlib.Omega.{arith}
 use lib.IntN.{ℤ, pos, _*ℤ_}
 use lib.ListN.{length}
 use Rattle.endian.specs.Numbers.{littleAt}
-use Rattle.judge_sums.specs.Places.{entryAt, rightAt, multiplierAt, rowAt, nowTerm, nextTerm, alongTerm, RowsIn, Visited, ColumnOf, AlongOf, mostEntry, mostAlong}
+use Rattle.judge_sums.specs.Places.{entryAt, rightAt, multiplierAt, rowPlace, nowTerm, nextTerm, alongTerm, RowsIn, Visited, ColumnOf, AlongOf, mostEntry, mostAlong}
 use Rattle.judge_sums.specs.Running.{Adds}
 use Rattle.judge_sums.proofs.SumLaws.{sum-none, sum-more, adds-nothing}
 
-pub row-inside : (bytes : List ℕ) (start n count i : ℕ) → RowsIn bytes start n count → i < count → rowAt start n (i + 1) ≤ length bytes
+pub row-inside : (bytes : List ℕ) (start n count i : ℕ) → RowsIn bytes start n count → i < count → rowPlace start n (i + 1) ≤ length bytes
 row-inside bytes start n count i rows below = omega (arith, rows .inside, mul-le-mul-right (4 * n + 4) below)
 
 -- a row without weight
@@ -28,7 +28,7 @@ module _ (multipliers : List ℕ) (place : ℕ) (rows : List ℕ) (start n j : �
       }
 
   pub column-more : (i multiplier at : ℕ) {now next now′ next′ : ℤ} → ColumnOf multipliers place rows start n j i now next
-      → multiplier ≡ littleAt 2 multipliers (place + 2 * i) → at ≡ rowAt start n i
+      → multiplier ≡ littleAt 2 multipliers (place + 2 * i) → at ≡ rowPlace start n i
       → Visited multiplier rows (at + 2 * j) (at + (2 * n + 2 * j)) now next now′ next′
       → ColumnOf multipliers place rows start n j (i + 1) now′ next′
   unfolding multiplierAt nowTerm nextTerm

@@ -14,7 +14,7 @@ use Rattle.whole.specs.Sums.{total}
 use Rattle.whole.proofs.Size.{abs-add, abs-product, back}
 use Rattle.whole.proofs.Solve.{v, _⊕_, _⊝_, _⊗_, solve}
 use Rattle.whole.proofs.Tables.{total-none, total-more, total-same}
-use Rattle.judge_sums.specs.Places.{entryAt, multiplierAt, rowAt, entryTerm, liftTerm, Lifts, RowAdded, RestStays, nowTerm, nextTerm, AllGrow, AllModest, AllNone, SumsOf, ColumnOf, mostEntry}
+use Rattle.judge_sums.specs.Places.{entryAt, multiplierAt, rowPlace, entryTerm, liftTerm, Lifts, RowAdded, RestStays, nowTerm, nextTerm, AllGrow, AllModest, AllNone, SumsOf, ColumnOf, mostEntry}
 use Rattle.judge_sums.specs.Running.{CanGrow, SumOf}
 use Rattle.judge_sums.proofs.SumLaws.{sum-none, sum-more}
 
@@ -86,7 +86,7 @@ module _ (multipliers : List ℕ) (place : ℕ) (rows : List ℕ) (start n : ℕ
       }
 
   pub sums-more : (i multiplier at : ℕ) (before after : List ℤ) → SumsOf multipliers place rows start n i before
-      → multiplier ≡ littleAt 2 multipliers (place + 2 * i) → multiplier < 65536 → at ≡ rowAt start n i
+      → multiplier ≡ littleAt 2 multipliers (place + 2 * i) → multiplier < 65536 → at ≡ rowPlace start n i
       → RowAdded multiplier rows at (2 * n) before after → SumsOf multipliers place rows start n (i + 1) after
   unfolding multiplierAt entryTerm liftTerm
   sums-more i multiplier at before after h read few here row =

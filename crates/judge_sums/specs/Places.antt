@@ -1,5 +1,6 @@
--- The numbers of a judge's sums by their places in the records' bytes, and the terms that the sums are made of (01, "Records on file" and "Conditions").
--- Rows over n variables lie one after another from `start` on, each n entries of A, n of A' and b; multipliers lie one after another from `place` on.
+-- The numbers of a judge's sums by their places in the records' bytes, and the terms that the sums are made of (01, "Records on file"
+-- and "Conditions"). Rows over n variables lie one after another from `start` on, each n entries of A, n of A' and b; multipliers lie
+-- one after another from `place` on.
 use Prim.Native.Nat.{ℕ, _+_, _*_, _≤_, _<_}
 use mathlib.Core.List.{List}
 use mathlib.Core.Path.{_≡_}
@@ -22,22 +23,23 @@ unfoldable pub multiplierAt : List ℕ → ℕ → ℤ
 multiplierAt bytes place = pos (littleAt 2 bytes place)
 
 -- where row i starts
-abbrev pub rowAt : ℕ → ℕ → ℕ → ℕ
-rowAt start n i = start + i * (4 * n + 4)
+abbrev pub rowPlace : ℕ → ℕ → ℕ → ℕ
+rowPlace start n i = start + i * (4 * n + 4)
 
 -- ---- terms: of row i in a sum over rows, of column j in a sum along a row
 
 -- multiplier times entry j of A
 unfoldable pub nowTerm : List ℕ → ℕ → List ℕ → ℕ → ℕ → ℕ → ℕ → ℤ
-nowTerm multipliers place rows start n j i = multiplierAt multipliers (place + 2 * i) *ℤ entryAt rows (rowAt start n i + 2 * j)
+nowTerm multipliers place rows start n j i = multiplierAt multipliers (place + 2 * i) *ℤ entryAt rows (rowPlace start n i + 2 * j)
 
 -- multiplier times entry j of A'
 unfoldable pub nextTerm : List ℕ → ℕ → List ℕ → ℕ → ℕ → ℕ → ℕ → ℤ
-nextTerm multipliers place rows start n j i = multiplierAt multipliers (place + 2 * i) *ℤ entryAt rows (rowAt start n i + (2 * n + 2 * j))
+nextTerm multipliers place rows start n j i =
+    multiplierAt multipliers (place + 2 * i) *ℤ entryAt rows (rowPlace start n i + (2 * n + 2 * j))
 
 -- multiplier times b
 unfoldable pub rightTerm : List ℕ → ℕ → List ℕ → ℕ → ℕ → ℕ → ℤ
-rightTerm multipliers place rows start n i = multiplierAt multipliers (place + 2 * i) *ℤ rightAt rows (rowAt start n i + 4 * n)
+rightTerm multipliers place rows start n i = multiplierAt multipliers (place + 2 * i) *ℤ rightAt rows (rowPlace start n i + 4 * n)
 
 -- entry times entry: of A or A' from `entries` on, and of U, V or W from `place` on
 unfoldable pub alongTerm : List ℕ → ℕ → List ℕ → ℕ → ℕ → ℤ
@@ -87,12 +89,12 @@ pub record ColumnOf (multipliers : List ℕ) (place : ℕ) (rows : List ℕ) (st
   pub now-sum : SumOf count mostEntry (nowTerm multipliers place rows start n j) now
   pub next-sum : SumOf count mostEntry (nextTerm multipliers place rows start n j) next
 
--- ---- all columns' totals under one list of multipliers, side by side in a list. Entry k of a row is that of A for k below n, and that of A' after it.
--- Each entry is lifted by 32768, so that it is never below 0; the lifts' total is the same for every column
+-- ---- all columns' totals under one list of multipliers, side by side in a list. Entry k of a row is that of A for k below n, and that
+-- of A' after it. Each entry is lifted by 32768, so that it is never below 0; the lifts' total is the same for every column
 
 -- multiplier times entry k, and times the lift
 unfoldable pub entryTerm : List ℕ → ℕ → List ℕ → ℕ → ℕ → ℕ → ℕ → ℤ
-entryTerm multipliers place rows start n k i = multiplierAt multipliers (place + 2 * i) *ℤ entryAt rows (rowAt start n i + 2 * k)
+entryTerm multipliers place rows start n k i = multiplierAt multipliers (place + 2 * i) *ℤ entryAt rows (rowPlace start n i + 2 * k)
 
 unfoldable pub liftTerm : List ℕ → ℕ → ℕ → ℤ
 liftTerm multipliers place i = multiplierAt multipliers (place + 2 * i) *ℤ pos 32768
@@ -131,7 +133,8 @@ pub record SumsOf (multipliers : List ℕ) (place : ℕ) (rows : List ℕ) (star
   pub each : (k : ℕ) → k < 2 * n
       → SumOf count mostEntry (entryTerm multipliers place rows start n k) (getD sums k (pos 0) -ℤ total count (liftTerm multipliers place))
 
--- ---- along one row: A·V, A'·U, A·W and A'·W over the first `count` columns. A starts at `row`, and U, then V, then W, n entries each, at `place`
+-- ---- along one row: A·V, A'·U, A·W and A'·W over the first `count` columns. A starts at `row`, and U, then V, then W, n entries each,
+-- at `place`
 
 pub record AlongOf (rows : List ℕ) (row n : ℕ) (certificate : List ℕ) (place count : ℕ) (v u now next : ℤ) : Type 0 where
   pub v-sum : SumOf count mostAlong (alongTerm rows row certificate (place + 4 * n)) v

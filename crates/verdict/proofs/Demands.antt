@@ -37,7 +37,7 @@ use Rattle.verdict.specs.Bounding.{Bounding, given-state, bounding, boun
 use Rattle.verdict.specs.StateTests.{state-tests}
 use Rattle.verdict.proofs.BoundAnswers.{number-bounded, invariant-holds, bounded-exactly-when-ranking, bounded-exactly-when-lasso, ranking-bound-is, lasso-bound-is}
 use Rattle.verdict.proofs.Accepted.{folded-number, lasso-conditions, accepted-exactly-when-ranking, accepted-exactly-when-exclusion, accepted-exactly-when-lasso}
-use Rattle.verdict.proofs.Parts.{ranking-parts, exclusion-parts, lasso-parts}
+use Rattle.verdict.proofs.PartsInRange.{ranking-parts, exclusion-parts, lasso-parts}
 
 -- ---- what the ranges give
 

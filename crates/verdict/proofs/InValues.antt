@@ -125,10 +125,10 @@ pub record Judged-pair (j : Judging) (n m : ℕ) (rs : List Row) (w : Writer) : 
   pub counts-are : R.counts-read (j .records .certificate-is) ≡ W.counts-given w
 
 -- the loop of a written loop record
-loop-held : (n m : ℕ) (rs : List Row) (room : List ℕ) → Rows-in n m rs → Writable (loop-writer n m rs room)
+loop-written : (n m : ℕ) (rs : List Row) (room : List ℕ) → Rows-in n m rs → Writable (loop-writer n m rs room)
     → (R.counts-read (over (loop-writer n m rs room) is-loop 0) .n ≡ n) × (loop-in (over (loop-writer n m rs room) is-loop 0) ≡ Loops.over n rs)
 unfolding W.counts-given W.writer loop-in
-loop-held n m rs room rows-in s =
+loop-written n m rs room rows-in s =
     rw (counts-same (loop-writer n m rs room) s is-loop 0, list-same (loop-writer n m rs room) s is-loop 0)
     (refl, ap (Loops.over n) (loop-back n m rs rows-in))
 
@@ -144,7 +144,7 @@ judged-pair n m rs room room′ w lent rows-in told told′ wanted same-n same-m
     let l = loop-writer n m rs room in
     let h = has-written l room told in
     let h′ = has-written w room′ told′ in
-    let held = loop-held n m rs room rows-in (h .writable) in
+    let held = loop-written n m rs room rows-in (h .writable) in
     rw (h .bytes-told, h′ .bytes-told, loop-over n m rs room, certificate-over n m rs room w (h .writable) (wanted-no-loop _ (W.kind w) wanted) same-n same-m)
     (record {
       both-sound =

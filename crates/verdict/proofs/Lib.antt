@@ -4,11 +4,14 @@ pub mod BoundAnswers
 pub mod Demands
 pub mod InValues
 pub mod OutcomeNumbers
-pub mod Parts
+pub mod PartsInRange
 pub mod RefusedCalls
 pub mod SampleSheet
 pub mod StageLaws
+pub mod SmallSums
 pub mod SumsFit
+pub mod ExclusionSumsFit
+pub mod LassoSumsFit
 pub mod SumsFitInBytes
 pub mod VerdictEdges
 pub mod WrongJudges

@@ -18,8 +18,11 @@ use Rattle.record.specs.Readers.{Reader, kind, counts-read}
 use Rattle.record.proofs.SoundRecords.{Sound}
 use Rattle.theory.specs.Lassos.{added, longer}
 use Rattle.verdict.specs.Contents.{loop-in, ranking-in, exclusion-in, lasso-in, parts}
-use Rattle.verdict.proofs.Parts.{counts-in, loop-parts, ranking-parts, exclusion-parts, lasso-parts}
-use Rattle.verdict.proofs.SumsFit.{Row-small, row-small, Weights, small-multipliers, Ranking-sums-fit, sums-fit, Exclusion-small, Exclusion-sums-fit, exclusion-sums-fit, small-directions, small-entries, small-right, Lasso-small, Lasso-sums-fit, lasso-sums-fit}
+use Rattle.verdict.proofs.PartsInRange.{counts-in, loop-parts, ranking-parts, exclusion-parts, lasso-parts}
+use Rattle.verdict.proofs.SmallSums.{Row-small, row-small, Weights, small-multipliers, small-directions, small-entries, small-right}
+use Rattle.verdict.proofs.SumsFit.{Ranking-sums-fit, sums-fit}
+use Rattle.verdict.proofs.ExclusionSumsFit.{Exclusion-small, Exclusion-sums-fit, exclusion-sums-fit}
+use Rattle.verdict.proofs.LassoSumsFit.{Lasso-small, Lasso-sums-fit, lasso-sums-fit}
 
 -- a natural number of a range
 most-of : (least most k : ℕ) → In (least to most) (pos k) → k ≤ most

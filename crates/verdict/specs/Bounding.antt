@@ -35,7 +35,9 @@ given-state b = record { n = variables-of (b .records); state = b .state }
 unfoldable pub invariant : List (Test Bounding)
 invariant =
     (11 at (λ b. 0)
-    unless λ b. not (is-lasso (kind-of (b .records))) || leZ (pos 0) (dot (lasso-in (b .records .certificate-is) .s) (b .state) +ℤ lasso-in (b .records .certificate-is) .s0))
+    unless λ b.
+    not (is-lasso (kind-of (b .records)))
+    || leZ (pos 0) (dot (lasso-in (b .records .certificate-is) .s) (b .state) +ℤ lasso-in (b .records .certificate-is) .s0))
     ∷ []
 
 unfoldable pub bounding : List (Stage Bounding)

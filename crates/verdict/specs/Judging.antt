@@ -1,5 +1,5 @@
--- 01, "Numbers of the verdict": what judging answers, and what the rank list holds afterwards, on every pair of byte strings and every list.
--- "Judging: the loop record, then the certificate, then 7 (kinds 2 and 4 only), then 8" is the list `judging`.
+-- 01, "Numbers of the verdict": what judging answers, and what the rank list holds afterwards, on every pair of byte strings and every
+-- list. "Judging: the loop record, then the certificate, then 7 (kinds 2 and 4 only), then 8" is the list `judging`.
 use Prim.Native.Nat.{ℕ}
 use mathlib.Core.Bool.{Bool, true, false, not, _||_}
 use mathlib.Core.List.{List, [], _∷_, _++_}
@@ -25,7 +25,9 @@ pub record Judging : Type 0 where
   pub room : ℕ
 
 unfoldable pub rank-room : List (Test Judging)
-rank-room = (7 at (λ j. variables-of (j .records)) unless λ j. not (has-rank (kind-of (j .records))) || leb (variables-of (j .records)) (j .room)) ∷ []
+rank-room =
+    (7 at (λ j. variables-of (j .records))
+    unless λ j. not (has-rank (kind-of (j .records))) || leb (variables-of (j .records)) (j .room)) ∷ []
 
 unfoldable pub judging : List (Stage Judging)
 judging =

@@ -36,7 +36,9 @@ P = Records.P .bytes
 
 -- S7 and S8: -x <= 0; 2x + x' <= 10; -2x - x' <= -10
 unfoldable pub ends-without-rank : List ℕ
-ends-without-rank = loop-bytes 1 (row (− 1 ∷ []) (pos 0 ∷ []) (pos 0) ∷ row (pos 2 ∷ []) (pos 1 ∷ []) (pos 10) ∷ row (− 2 ∷ []) (− 1 ∷ []) (− 10) ∷ [])
+ends-without-rank =
+    loop-bytes 1
+    (row (− 1 ∷ []) (pos 0 ∷ []) (pos 0) ∷ row (pos 2 ∷ []) (pos 1 ∷ []) (pos 10) ∷ row (− 2 ∷ []) (− 1 ∷ []) (− 10) ∷ [])
 
 -- S9: 2x <= 1; -2x <= -1; x' - x <= 0; x - x' <= 0
 unfoldable pub halves : List ℕ

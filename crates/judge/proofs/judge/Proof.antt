@@ -2,7 +2,7 @@
 use mathlib.Core.Path.{_∙_}
 use Rattle.verdict.specs.Judging.{judge-of}
 use Rattle.judge.proofs.Entered.{loop-refused, loop-sound}
-use Rattle.judge.proofs.Ways.{refused-so, at-loop}
+use Rattle.judge.proofs.JudgingWays.{refused-so, at-loop}
 use borrow.Author.Needs.{needs}
 use Rattle.judge.proofs.judge.Statement.{statement}
 use Rattle.judge.proofs.judge.Tie as tie

@@ -4,7 +4,7 @@ use native.Mathlib.Omega.{arith}
 use borrow.Author.Tests.{not-true, not-false}
 use Rattle.verdict.specs.Judging.{certificates-judged}
 use Rattle.judge.proofs.JudgedKinds.{exclusion-refused, exclusion-accepted}
-use Rattle.judge.proofs.Sizes.{n-few, rows-in, exclusion-long}
+use Rattle.judge.proofs.SoundSizes.{n-few, rows-in, exclusion-long}
 use borrow.Author.Needs.{needs}
 use Rattle.judge.proofs.judge_excluded.Statement.{statement}
 use Rattle.judge.proofs.judge_excluded.Tie as tie

@@ -8,7 +8,7 @@ use borrow.Author.Needs.{needs}
 use Rattle.record.specs.Layouts.{kindOf}
 use Rattle.judge.proofs.JudgedKinds.{short-list, ranked-judged}
 use Rattle.judge.proofs.RankKinds.{no-others, as-ranking, as-lasso}
-use Rattle.judge.proofs.Sizes.{n-few, m-few, rows-in, ranking-long, lasso-long}
+use Rattle.judge.proofs.SoundSizes.{n-few, m-few, rows-in, ranking-long, lasso-long}
 use Rattle.judge.proofs.SoundContents.{ranking-told, lasso-told}
 use Rattle.judge.proofs.judge_ranked.Statement.{statement}
 use Rattle.verdict.specs.Judging.{certificates-judged}

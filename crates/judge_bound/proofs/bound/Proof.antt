@@ -2,7 +2,7 @@
 use mathlib.Core.Path.{_∙_}
 use Rattle.verdict.specs.Bounding.{bound-of}
 use Rattle.judge.proofs.Entered.{loop-refused, loop-sound}
-use Rattle.judge_bound.proofs.Ways.{refused-so, at-loop}
+use Rattle.judge_bound.proofs.BoundingWays.{refused-so, at-loop}
 use borrow.Author.Needs.{needs}
 use Rattle.judge_bound.proofs.bound.Statement.{statement}
 use Rattle.judge_bound.proofs.bound.Tie as tie

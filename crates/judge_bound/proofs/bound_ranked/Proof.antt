@@ -12,11 +12,11 @@ use Rattle.whole.specs.Sums.{Within}
 use Rattle.judge_lasso.specs.LassoHeld.{LassoIn}
 use Rattle.judge_ranking.specs.declared.Ranked.{Ranked}
 use Rattle.verdict.specs.Pairs.{pair-of}
-use Rattle.judge.specs.Told.{RankedOf}
+use Rattle.judge.specs.SoundRecords.{RankedOf}
 use Rattle.judge.proofs.RankKinds.{no-others, as-ranking, as-lasso}
-use Rattle.judge.proofs.Sizes.{n-few, m-few, rows-in, ranking-long, lasso-long}
+use Rattle.judge.proofs.SoundSizes.{n-few, m-few, rows-in, ranking-long, lasso-long}
 use Rattle.judge.proofs.SoundContents.{ranking-told, lasso-told}
-use Rattle.judge_bound.specs.Told.{BoundFits}
+use Rattle.judge_bound.specs.BoundShown.{BoundFits}
 use Rattle.judge_bound.proofs.BoundedKinds.{state-long, state-small, lasso-there, ranked-fits, ranked-answers}
 use Rattle.judge_bound.proofs.bound_ranked.Statement.{statement}
 use Rattle.verdict.specs.Bounding.{certificates-bounded}

@@ -11,11 +11,11 @@ use Rattle.record_check.specs.declared.Checked.{Checked}
 use Rattle.verdict.specs.Bounding.{bound-of, certificates-bounded}
 use Rattle.verdict.specs.Pairs.{loop-record, certificate-record, variables-of}
 use Rattle.verdict.specs.StateTests.{Given-state, state-tests}
-use Rattle.judge.specs.Told.{RankSound}
+use Rattle.judge.specs.SoundRecords.{RankSound}
 use Rattle.judge.proofs.Entered.{certificate-refused, certificate-told, kind-wanted, rank-sound-as}
 use Rattle.judge.proofs.RankKinds.{no-others}
 use Rattle.judge_state.proofs.StateLaws.{state-refused, state-done}
-use Rattle.judge_bound.proofs.Ways.{refused-so, at-certificate, at-state}
+use Rattle.judge_bound.proofs.BoundingWays.{refused-so, at-certificate, at-state}
 use borrow.Author.Needs.{needs}
 use Rattle.judge_bound.proofs.bound_sound.Statement.{statement}
 use Rattle.judge_bound.proofs.bound_sound.Tie as tie

@@ -40,9 +40,13 @@ add-i32-at c = search needs
 i32-at-requires : tie.Need-i32-at-requires
 i32-at-requires c κs = search needs
 
+-- where the call started
+abbrev start : tie.After-entries-at → tie.Start
+start c = c .before .before
+
 total-fits : (c : tie.After-struct-told) → SFits w64 (c .before .before .before .entries-at .result .sum +ℤ c .before .before .i32-at .result)
 total-fits c =
-    let s = c .before .before .before .before .before in
+    let s = start (c .before .before .before) in
     let reached = c .before .before .before .entries-at in
     let right = c .before .before .i32-at in
     fits-abs {z = reached .result .sum +ℤ right .result} (omega (arith, abs-add (reached .result .sum) (right .result), reached .ensures .small, right .ensures .1, s .pre .0 .n-few, s .pre .1))
@@ -56,7 +60,7 @@ add-result c =
 returns : tie.Need-returns
 unfolding lasso-held rightAt
 returns c =
-    let s = c .before .before .before .before .before in
+    let s = start (c .before .before .before) in
     let a = s .args in
     let reached = c .before .before .before .entries-at in
     let right = c .before .before .i32-at in

@@ -70,7 +70,8 @@ accepted-requires c κs = search needs
 
 bound-at-requires : tie.Need-bound-at-requires
 bound-at-requires c κs =
-    let told = c .before .before .before .before .before in
+    let accepted = c .before .before in
+    let told = accepted .before .before .before in
     let p = s (held told) .pre in
     rw (start-fits told, fall-fits told) (p .0 (holds (held told)), p .1, p .3)
 

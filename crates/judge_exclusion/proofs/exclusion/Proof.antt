@@ -7,7 +7,7 @@ use borrow.Author.Count.{below-more}
 use borrow.Author.Needs.{needs}
 use borrow.Author.Tests.{not-true, not-false}
 use Rattle.judge_sums.specs.Lists.{rowFrom}
-use Rattle.judge_sums.specs.Places.{rowAt}
+use Rattle.judge_sums.specs.Places.{rowPlace}
 use Rattle.judge_sums.proofs.ColumnLaws.{row-inside}
 use Rattle.judge_exclusion.specs.ExclusionHeld.{RowExcluded}
 use Rattle.judge_exclusion.specs.ExclusionHeld.{exclusion-held}
@@ -18,13 +18,13 @@ use Rattle.judge_exclusion.proofs.exclusion.Tie as tie
 
 abbrev Inv-loop : tie.InvT-loop
 Inv-loop rows start n m certificate stride at₀ i₀ at i =
-    (i ≤ m) × (at ≡ rowAt start n i) × ((k : ℕ) → k < i → RowExcluded (exclusion-held certificate n) (rowFrom rows n (rowAt start n k)))
+    (i ≤ m) × (at ≡ rowPlace start n i) × ((k : ℕ) → k < i → RowExcluded (exclusion-held certificate n) (rowFrom rows n (rowPlace start n k)))
 
 abbrev μ-loop : tie.MeasureT-loop
 μ-loop rows start n m certificate stride at₀ i₀ at i = m - i
 
 -- the row of this turn lies within the bytes
-inside : (c : tie.In-loop Inv-loop μ-loop) → let a = c .before .before .before .before .args in rowAt (a .start) (a .n) (c .before .loop .i + 1) ≤ length (a .rows .now)
+inside : (c : tie.In-loop Inv-loop μ-loop) → let a = c .before .before .before .before .args in rowPlace (a .start) (a .n) (c .before .loop .i + 1) ≤ length (a .rows .now)
 inside c =
     let start = c .before .before .before .before in
     row-inside (start .args .rows .now) (start .args .start) (start .args .n) (start .args .m) (c .before .loop .i) (start .pre .0) (c .loop-test .taken)

@@ -1,7 +1,7 @@
 -- `judge_exclusion::row_excluded` meets its contract. Assumes nothing.
-use Prim.Native.Nat.{_+_, _*_}
-use mathlib.Core.Path.{_≡_, _∙_}
-use lib.IntN.{pos, _*ℤ_}
+use Prim.Native.Nat.{ℕ, _+_, _*_}
+use mathlib.Core.Path.{_≡_, ap₂, _∙_}
+use lib.IntN.{ℤ, pos, _*ℤ_}
 use native.Mathlib.Omega.{arith}
 use mir.Facts.{toZ-ofZ}
 use Rattle.whole.proofs.Size.{fits-abs}
@@ -30,30 +30,43 @@ i32-at-requires c κs = search needs
 times-requires : tie.Need-times-requires
 times-requires c κs = search needs
 
+-- ---- the places of this proof: the start, and the left sides
+
+abbrev start : tie.After-along → tie.Start
+start c = c .before .before .before
+
+abbrev asked : tie.After-times → tie.After-along
+asked c = c .before .before .before
+
 -- q·b
-right-is : (c : tie.After-times) → c .times .result ≡ pos (littleAt 2 (c .before .before .before .before .before .before .args .certificate .now) 6) *ℤ rightAt (c .before .before .before .before .before .before .args .rows .now) (c .before .before .before .before .before .before .args .row + 4 * c .before .before .before .before .before .before .args .n)
+right-is : (c : tie.After-times)
+    → c .times .result
+    ≡ pos (littleAt 2 (start (asked c) .args .certificate .now) 6)
+    *ℤ rightAt (start (asked c) .args .rows .now) (start (asked c) .args .row + 4 * start (asked c) .args .n)
 unfolding rightAt
 right-is c =
     let b = c .before .i32-at in
     let q = c .before .before .u16-at in
-    c .times .ensures .0 ∙ rw (q .ensures .0, toZ-ofZ (fits-abs {z = b .result} (omega (arith, b .ensures .1))), b .ensures .0)
+    c .times .ensures .0
+    ∙ ap₂ (λ (k : ℕ) (z : ℤ). pos k *ℤ z) (q .ensures .0) (toZ-ofZ (fits-abs {z = b .result} (omega (arith, b .ensures .1))) ∙ b .ensures .0)
 
 returns : tie.Need-returns
 returns c =
     let after = c .before .before .before in
-    let along = after .before .before .before in
-    let a = along .before .before .before .args in
+    let along = asked after in
+    let a = start along .args in
     row-fails (a .rows .now) (a .row) (a .n) (a .certificate .now) (along .along .result .direction) (along .along .result .step) (after .times .result)
     (along .along .ensures .0) (along .along .ensures .2) (right-is after) (along .along .ensures .1) (c .if1 .taken)
 
 returns-2 : tie.Need-returns-2
 returns-2 c =
-    let after = c .before .before .before .before .before in
-    let along = after .before .before .before in
-    let a = along .before .before .before .args in
+    let tested = c .before .before in
+    let after = tested .before .before .before in
+    let along = asked after in
+    let a = start along .args in
     row-decided (a .rows .now) (a .row) (a .n) (a .certificate .now) (along .along .result .direction) (along .along .result .step) (after .times .result)
     (along .along .ensures .0) (along .along .ensures .2) (right-is after) (along .along .ensures .1) (along .along .ensures .3)
-    (omega (arith, after .times .ensures .1)) (c .before .before .if1 .left)
+    (omega (arith, after .times .ensures .1)) (tested .if1 .left)
 
 pub row-excluded-spec : {M : Type 1} → statement M
 row-excluded-spec =

@@ -23,6 +23,10 @@ Inv-loop rows start n count certificate place s h k j₀ j =
 abbrev μ-loop : tie.MeasureT-loop
 μ-loop rows start n count certificate place s h k j₀ j = n - j
 
+-- where the call started
+abbrev start : tie.At-loop Inv-loop μ-loop → tie.Start Inv-loop μ-loop
+start c = c .before .before .before
+
 loop-holds : tie.Need-loop-holds Inv-loop μ-loop
 loop-holds c = (search needs, λ i h. absurd (omega arith))
 
@@ -60,21 +64,23 @@ i32-at-requires c κs = search needs
 right-carries-requires : tie.Need-right-carries-requires Inv-loop μ-loop
 right-carries-requires c κs =
     let read = c .before .i32-at in
-    let right = c .before .before .right-of in
-    let start = c .before .before .before .before .before .before .before in (
-      passed-grows (right .result .sum) (can-grow (start .args .count) 140735340871680 _ (right .result .sum) (omega arith) (omega arith) (right .ensures)),
+    let summed = c .before .before in
+    let right = summed .right-of in
+    let s = start (summed .before .before) in (
+      passed-grows (right .result .sum) (can-grow (s .args .count) 140735340871680 _ (right .result .sum) (omega arith) (omega arith) (right .ensures)),
       rw (toZ-ofZ (fits-abs {z = read .result} (omega (arith, read .ensures .1)))) (read .ensures .1),
-      start .pre .6,
-      start .pre .7,
+      s .pre .6,
+      s .pre .7,
     )
 
 returns-2 : tie.Need-returns-2 Inv-loop μ-loop
 unfolding rightAt
 returns-2 c =
     let read = c .before .before .i32-at in
-    let right = c .before .before .before .right-of in
-    let l = c .before .before .before .before .before in
-    let a = l .before .before .before .args in
+    let summed = c .before .before .before in
+    let right = summed .right-of in
+    let l = summed .before .before in
+    let a = start l .args in
     let end : l .loop .j ≡ a .n = omega arith in
     answer-by
     (λ t. record { columns-are = λ i h. l .loop .inv .1 i (omega arith); right-is = t })

@@ -10,6 +10,13 @@ use borrow.Author.Needs.{needs}
 use Rattle.judge_invariant.proofs.column_carried.Statement.{statement}
 use Rattle.judge_invariant.proofs.column_carried.Tie as tie
 
+-- once the entry of s is read: where that was, and the start of the call
+abbrev entry : tie.After-struct-told2 → tie.After-i16-at
+entry c = c .before .before .before .before
+
+abbrev start : tie.After-column-of → tie.Start
+start c = c .before .before .before
+
 column-of-requires : tie.Need-column-of-requires
 column-of-requires c κs = search needs
 
@@ -24,23 +31,23 @@ i16-at-requires c κs = search needs
 
 column-carries-requires : tie.Need-column-carries-requires
 column-carries-requires c κs =
-    let read = c .before .before .before .before in
+    let read = entry c in
     let column = read .before .column-of in
-    let start = read .before .before .before .before in
-    let a = start .args in (
+    let s = start (read .before) in
+    let a = s .args in (
       passed-grows (column .result .next .sum)
           (next-grows (a .certificate .now) (a .place) (a .rows .now) (a .start) (a .n) (a .j) (a .count) (column .result .now .sum) (column .result .next .sum) (omega arith) (column .ensures)),
       rw (toZ-ofZ (fits-abs {z = read .i16-at .result} (omega (arith, read .i16-at .ensures .1)))) (read .i16-at .ensures .1),
-      start .pre .7,
-      start .pre .8,
+      s .pre .7,
+      s .pre .8,
     )
 
 returns : tie.Need-returns
 unfolding entryAt
 returns c =
-    let read = c .before .before .before .before .before in
+    let read = entry (c .before) in
     let column = read .before .column-of in
-    let a = read .before .before .before .before .args in
+    let a = start (read .before) .args in
     carried-decided (a .rows .now) (a .start) (a .n) (a .count) (a .j) (a .certificate .now) (a .place) (a .s) (a .h) (a .k) (c .column-carries .result)
     (column .result .now .sum) (column .result .next .sum) (read .i16-at .result) (omega arith) (omega arith) (column .ensures) (read .i16-at .ensures .0) (read .i16-at .ensures .1)
     (c .column-carries .ensures)

@@ -3,6 +3,7 @@ use Prim.Native.Nat.{_+_, _*_, _≤_, _<_}
 use native.Mathlib.Omega.{arith}
 use mir.Syntax.{w64}
 use mir.Facts.{toZ-ofZ}
+use Rattle.judge_sums.specs.Running.{Modest}
 use Rattle.judge_sums.proofs.LiftLaws.{sums-modest}
 use Rattle.judge_conditions.specs.LoopHeld.{loop-held}
 use Rattle.judge_ranking.specs.RankingHeld.{ranking-held}
@@ -12,6 +13,29 @@ use Rattle.judge_ranking.proofs.RankingTotals.{totalled, zeros}
 use borrow.Author.Needs.{needs}
 use Rattle.judge_ranking.proofs.loop_columns.Statement.{statement}
 use Rattle.judge_ranking.proofs.loop_columns.Tie as tie
+
+-- ---- once the lifts are told: the rows added, the start of the call, and that the lifts are small
+
+module _ (c : tie.After-lift-of2) where
+  abbrev rows : tie.After-add-rows
+  rows = c .before .before .before .before
+
+  abbrev s : tie.Start
+  s = rows .before .before .before .before .before
+
+  few : s .args .m ≤ 65
+  few = omega (arith, s .pre .2)
+
+  y-modest : Modest (c .before .lift-of .result .sum)
+  y-modest = lift-modest (s .args .m) _ (c .before .lift-of .result .sum) few (c .before .lift-of .ensures)
+
+  z-modest : Modest (c .lift-of2 .result .sum)
+  z-modest = lift-modest (s .args .m) _ (c .lift-of2 .result .sum) few (c .lift-of2 .ensures)
+
+abbrev lifted : tie.After-struct-told2 → tie.After-lift-of2
+lifted c = c .before .before .before .before .before
+
+-- ---- the needs
 
 mul-z : tie.Need-mul-z
 mul-z c = search needs
@@ -46,20 +70,19 @@ slice-aggregate-rank-columns-2 c = search needs
 
 rank-columns-requires : tie.Need-rank-columns-requires
 rank-columns-requires c κs =
-    let lifted = c .before .before .before .before .before .lift-of2 in
-    let lifted-y = c .before .before .before .before .before .before .lift-of in
-    let rows = c .before .before .before .before .before .before .before .before .before .add-rows in
-    let start = c .before .before .before .before .before .before .before .before .before .before .before .before .before .before in
-    let a = start .args in
-    let few : a .m < 16384 = omega (arith, start .pre .2) in (
-      omega (arith, start .pre .1, rows .kept .0),
-      omega (arith, start .pre .1, rows .kept .1 .0),
-      start .pre .1,
-      sums-modest (a .certificate .now) 6 (a .rows .now) (a .start) (a .n) (a .m) (rows .last .0) (rows .ensures .0) few,
-      sums-modest (a .certificate .now) (6 + 2 * a .m) (a .rows .now) (a .start) (a .n) (a .m) (rows .last .1 .0) (rows .ensures .1) few,
-      passed-modest (lifted-y .result .sum) (lift-modest (a .m) _ (lifted-y .result .sum) (omega (arith, start .pre .2)) (lifted-y .ensures)),
-      passed-modest (lifted .result .sum) (lift-modest (a .m) _ (lifted .result .sum) (omega (arith, start .pre .2)) (lifted .ensures)),
-      start .pre .4,
+    let lift = lifted c in
+    let sums = rows lift .add-rows in
+    let p = s lift .pre in
+    let a = s lift .args in
+    let few : a .m < 16384 = omega (arith, p .2) in (
+      omega (arith, p .1, sums .kept .0),
+      omega (arith, p .1, sums .kept .1 .0),
+      p .1,
+      sums-modest (a .certificate .now) 6 (a .rows .now) (a .start) (a .n) (a .m) (sums .last .0) (sums .ensures .0) few,
+      sums-modest (a .certificate .now) (6 + 2 * a .m) (a .rows .now) (a .start) (a .n) (a .m) (sums .last .1 .0) (sums .ensures .1) few,
+      passed-modest (lift .before .lift-of .result .sum) (y-modest lift),
+      passed-modest (lift .lift-of2 .result .sum) (z-modest lift),
+      p .4,
     )
 
 same-length : tie.Need-same-length
@@ -68,22 +91,20 @@ same-length c = search needs
 returns : tie.Need-returns
 unfolding loop-held
 returns c =
-    let lifted = c .before .before .before .before .before .before .before .lift-of2 in
-    let lifted-y = c .before .before .before .before .before .before .before .before .lift-of in
-    let rows = c .before .before .before .before .before .before .before .before .before .before .before .add-rows in
-    let start = c .before .before .before .before .before .before .before .before .before .before .before .before .before .before .before .before in
-    let a = start .args in
-    let few : a .m ≤ 65 = omega (arith, start .pre .2) in
-    let y-modest = lift-modest (a .m) _ (lifted-y .result .sum) few (lifted-y .ensures) in
-    let z-modest = lift-modest (a .m) _ (lifted .result .sum) few (lifted .ensures) in
-    columns-of (loop-held (a .rows .now) (a .start) (a .n) (a .m)) (ranking-held (a .certificate .now) 6 (a .m)) (rows .last .0) (lifted-y .result .sum) (rows .last .1 .0) (lifted .result .sum)
-    (c .before .rank-columns .result) (a .rank .now) (c .before .rank-columns .last .1 .1 .1 .1 .1 .0)
-    (totalled (a .rows .now) (a .certificate .now) (a .start) (a .n) (a .m) 6 (rows .last .0) (lifted-y .result .sum) (rows .last .1 .0) (lifted .result .sum) few
-    (rows .ensures .0) (lifted-y .ensures) (rows .ensures .1) (lifted .ensures))
+    let called = c .before .rank-columns in
+    let lift = lifted (c .before .before) in
+    let sums = rows lift .add-rows in
+    let a = s lift .args in
+    let y-lift = lift .before .lift-of in
+    let z-lift = lift .lift-of2 in
+    columns-of (loop-held (a .rows .now) (a .start) (a .n) (a .m)) (ranking-held (a .certificate .now) 6 (a .m)) (sums .last .0) (y-lift .result .sum) (sums .last .1 .0) (z-lift .result .sum)
+    (called .result) (a .rank .now) (called .last .1 .1 .1 .1 .1 .0)
+    (totalled (a .rows .now) (a .certificate .now) (a .start) (a .n) (a .m) 6 (sums .last .0) (y-lift .result .sum) (sums .last .1 .0) (z-lift .result .sum) (few lift)
+    (sums .ensures .0) (y-lift .ensures) (sums .ensures .1) (z-lift .ensures))
     (rw (
-      toZ-ofZ {w = w64} {z = lifted-y .result .sum} (modest-fits y-modest),
-      toZ-ofZ {w = w64} {z = lifted .result .sum} (modest-fits z-modest),
-    ) at (c .before .rank-columns .ensures))
+      toZ-ofZ {w = w64} {z = y-lift .result .sum} (modest-fits (y-modest lift)),
+      toZ-ofZ {w = w64} {z = z-lift .result .sum} (modest-fits (z-modest lift)),
+    ) at (called .ensures))
 
 pub loop-columns-spec : {M : Type 1} → statement M
 loop-columns-spec =

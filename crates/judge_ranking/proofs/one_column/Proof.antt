@@ -40,11 +40,15 @@ column-holds-requires c κs =
 
 returns : tie.Need-returns
 returns c =
-    let s = c .before .before .before .before .before in
-    let ya = c .before .before .before .before .unlifted in
-    let ya2 = c .before .before .before .unlifted2 in
-    let za = c .before .before .unlifted3 in
-    let za2 = c .before .unlifted4 in
+    let fourth = c .before in
+    let third = fourth .before in
+    let second = third .before in
+    let first = second .before in
+    let s = first .before in
+    let ya = first .unlifted in
+    let ya2 = second .unlifted2 in
+    let za = third .unlifted3 in
+    let za2 = fourth .unlifted4 in
     rw (
       ← rw (toZ-ofZ (s .fits .ylift)) at (ya .ensures .0),
       ← rw (toZ-ofZ (s .fits .ylift)) at (ya2 .ensures .0),

@@ -27,11 +27,12 @@ same-length c = search needs
 
 returns-2 : tie.Need-returns-2
 returns-2 c =
-    let called = c .before .before .before .before .all-columns in
-    let s = c .before .before .before .before .before in
+    let passed = c .before .before .before in
+    let called = passed .before .all-columns in
+    let s = passed .before .before in
     let decided = rw (toZ-ofZ (s .fits .ylift), toZ-ofZ (s .fits .zlift)) at (called .ensures) in
     record {
-      decided = rw (not-false (called .result) (c .before .before .before .if1 .left)) at decided;
+      decided = rw (not-false (called .result) (passed .if1 .left)) at decided;
       put = λ t. rw (toZ-ofZ (s .fits .zlift)) at (c .before .put-rank .ensures);
       stays = λ t. absurd (false≢true (sym t));
     }

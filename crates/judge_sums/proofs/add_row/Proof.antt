@@ -94,11 +94,12 @@ loop-again : tie.Need-loop-again Inv-loop μ-loop
 loop-again c =
     let second = c .add-lifted2 in
     let first = c .before .before .add-lifted in
-    let turn = c .before .before .before .before .before in
+    let inside = c .before .before .before .before in
+    let turn = inside .before in
     let start = turn .before .before .before in
     let a = start .args in
     let k = turn .loop .k in
-    let below = c .before .before .before .before .loop-test .taken in
+    let below = inside .loop-test .taken in
     let ys-grow = next-grows (a .y) (a .rows .now) (a .row) (a .ys .now) k (a .width) (turn .loop .ys) (turn .loop .inv .1) (start .pre .2) below in
     let zs-grow = next-grows (a .z) (a .rows .now) (a .row) (a .zs .now) k (a .width) (turn .loop .zs) (turn .loop .inv .2) (start .pre .3) below in (
       omega arith,

@@ -3,7 +3,7 @@ use Prim.Native.Nat.{_+_, _*_, _-_, _≤_, _<_}
 use mathlib.Core.Path.{_≡_}
 use native.Mathlib.Omega.{arith}
 use lib.ListN.{length}
-use Rattle.judge_sums.specs.Places.{rowAt, RestStays, SumsOf}
+use Rattle.judge_sums.specs.Places.{rowPlace, RestStays, SumsOf}
 use Rattle.judge_sums.proofs.ColumnLaws.{row-inside}
 use Rattle.judge_sums.proofs.LiftLaws.{rest-none, rest-more, sums-none, sums-more, sums-grow}
 use borrow.Author.Needs.{needs}
@@ -12,18 +12,26 @@ use Rattle.judge_sums.proofs.add_rows.Tie as tie
 
 abbrev Inv-loop : tie.InvT-loop
 Inv-loop ys₀ zs₀ rows start n multipliers y z count stride at₀ i₀ ys zs at i =
-    (i ≤ count) × (at ≡ rowAt start n i) × RestStays (2 * n) ys₀ ys × RestStays (2 * n) zs₀ zs
+    (i ≤ count) × (at ≡ rowPlace start n i) × RestStays (2 * n) ys₀ ys × RestStays (2 * n) zs₀ zs
     × SumsOf multipliers y rows start n i ys × SumsOf multipliers z rows start n i zs
 
 abbrev μ-loop : tie.MeasureT-loop
 μ-loop ys₀ zs₀ rows start n multipliers y z count stride at₀ i₀ ys zs at i = count - i
 
+-- where the call started
+abbrev start : tie.At-loop Inv-loop μ-loop → tie.Start Inv-loop μ-loop
+start c = c .before .before .before
+
+-- the turn that a row is added in
+abbrev turned : tie.After-add-row Inv-loop μ-loop → tie.In-loop Inv-loop μ-loop
+turned c = c .before .before .before .before .before
+
 -- the row of this turn lies within the bytes
 inside : (c : tie.In-loop Inv-loop μ-loop)
-    → let args = c .before .before .before .before .args in rowAt (args .start) (args .n) (c .before .loop .i + 1) ≤ length (args .rows .now)
+    → let args = start (c .before) .args in rowPlace (args .start) (args .n) (c .before .loop .i + 1) ≤ length (args .rows .now)
 inside c =
-    let start = c .before .before .before .before in
-    row-inside (start .args .rows .now) (start .args .start) (start .args .n) (start .args .count) (c .before .loop .i) (start .pre .4) (c .loop-test .taken)
+    let s = start (c .before) in
+    row-inside (s .args .rows .now) (s .args .start) (s .args .n) (s .args .count) (c .before .loop .i) (s .pre .4) (c .loop-test .taken)
 
 mul-stride : tie.Need-mul-stride Inv-loop μ-loop
 mul-stride c = search needs
@@ -83,7 +91,7 @@ add-row-requires c κs =
     )
 
 add-at : tie.Need-add-at Inv-loop μ-loop
-add-at c = let row = inside (c .before .before .before .before .before .before .before) in search needs
+add-at c = let row = inside (turned (c .before .before)) in search needs
 
 add-i : tie.Need-add-i Inv-loop μ-loop
 add-i c = search needs
@@ -93,11 +101,13 @@ loop-less c = search needs
 
 loop-again : tie.Need-loop-again Inv-loop μ-loop
 loop-again c =
-    let called = c .before .before .add-row in
-    let second = c .before .before .before .before .before .u16-at2 in
-    let first = c .before .before .before .before .before .before .u16-at in
-    let turn = c .before .before .before .before .before .before .before .before in
-    let a = turn .before .before .before .args in (
+    let added = c .before .before in
+    let called = added .add-row in
+    let read = added .before .before .before in
+    let second = read .u16-at2 in
+    let first = read .before .u16-at in
+    let turn = turned added .before in
+    let a = start turn .args in (
       omega arith,
       omega arith,
       rest-more (turn .loop .inv .2) (called .ensures .0),
@@ -116,7 +126,7 @@ same-length-2 c = c .before .loop .inv .3 .long
 
 returns : tie.Need-returns Inv-loop μ-loop
 returns c =
-    let end : c .before .loop .i ≡ c .before .before .before .before .args .count = omega arith in
+    let end : c .before .loop .i ≡ start (c .before) .args .count = omega arith in
     (rw end at (c .before .loop .inv .4), rw end at (c .before .loop .inv .5), c .before .loop .inv .2, c .before .loop .inv .3)
 
 pub add-rows-spec : {M : Type 1} → statement M

@@ -3,7 +3,7 @@ use Prim.Native.Nat.{_+_, _-_, _≤_}
 use mathlib.Core.Path.{_≡_}
 use native.Mathlib.Omega.{arith}
 use lib.ListN.{length}
-use Rattle.judge_sums.specs.Places.{rowAt, ColumnOf}
+use Rattle.judge_sums.specs.Places.{rowPlace, ColumnOf}
 use Rattle.judge_sums.proofs.ColumnLaws.{row-inside, column-none, column-more}
 use borrow.Author.Needs.{needs}
 use Rattle.judge_sums.proofs.column_of.Statement.{statement}
@@ -11,17 +11,21 @@ use Rattle.judge_sums.proofs.column_of.Tie as tie
 
 abbrev Inv-loop : tie.InvT-loop
 Inv-loop rows start n j multipliers place count stride first second column₀ at₀ i₀ column at i =
-    (i ≤ count) × (at ≡ rowAt start n i) × ColumnOf multipliers place rows start n j i (column .now .sum) (column .next .sum)
+    (i ≤ count) × (at ≡ rowPlace start n i) × ColumnOf multipliers place rows start n j i (column .now .sum) (column .next .sum)
 
 abbrev μ-loop : tie.MeasureT-loop
 μ-loop rows start n j multipliers place count stride first second column₀ at₀ i₀ column at i = count - i
 
+-- where the call started
+abbrev start : tie.At-loop Inv-loop μ-loop → tie.Start Inv-loop μ-loop
+start c = c .before .before .before .before
+
 -- the row of this turn lies within the bytes
 inside : (c : tie.In-loop Inv-loop μ-loop)
-    → let args = c .before .before .before .before .before .args in rowAt (args .start) (args .n) (c .before .loop .i + 1) ≤ length (args .rows .now)
+    → let args = start (c .before) .args in rowPlace (args .start) (args .n) (c .before .loop .i + 1) ≤ length (args .rows .now)
 inside c =
-    let start = c .before .before .before .before .before in
-    row-inside (start .args .rows .now) (start .args .start) (start .args .n) (start .args .count) (c .before .loop .i) (start .pre .0) (c .loop-test .taken)
+    let s = start (c .before) in
+    row-inside (s .args .rows .now) (s .args .start) (s .args .n) (s .args .count) (c .before .loop .i) (s .pre .0) (c .loop-test .taken)
 
 mul-stride : tie.Need-mul-stride Inv-loop μ-loop
 mul-stride c = search needs
@@ -79,7 +83,7 @@ loop-less c = search needs
 loop-again : tie.Need-loop-again Inv-loop μ-loop
 loop-again c =
     let turn = c .before .before .before in
-    let args = turn .before .before .before .before .args in (
+    let args = start turn .args in (
       omega arith,
       omega arith,
       column-more (args .multipliers .now) (args .place) (args .rows .now) (args .start) (args .n) (args .j) (turn .loop .i)
@@ -88,7 +92,7 @@ loop-again c =
 
 returns : tie.Need-returns Inv-loop μ-loop
 returns c =
-    let end : c .before .loop .i ≡ c .before .before .before .before .before .args .count = omega arith in
+    let end : c .before .loop .i ≡ start (c .before) .args .count = omega arith in
     rw end at (c .before .loop .inv .2)
 
 pub column-of-spec : {M : Type 1} → statement M

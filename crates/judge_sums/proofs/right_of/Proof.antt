@@ -3,7 +3,7 @@ use Prim.Native.Nat.{_+_, _-_, _≤_}
 use mathlib.Core.Path.{_≡_}
 use native.Mathlib.Omega.{arith}
 use lib.ListN.{length}
-use Rattle.judge_sums.specs.Places.{multiplierAt, rowAt, rightTerm, mostRight}
+use Rattle.judge_sums.specs.Places.{multiplierAt, rowPlace, rightTerm, mostRight}
 use Rattle.judge_sums.specs.Running.{SumOf}
 use Rattle.judge_sums.proofs.ColumnLaws.{row-inside}
 use Rattle.judge_sums.proofs.SumLaws.{sum-none, sum-more}
@@ -13,17 +13,21 @@ use Rattle.judge_sums.proofs.right_of.Tie as tie
 
 abbrev Inv-loop : tie.InvT-loop
 Inv-loop rows start n multipliers place count stride right total₀ at₀ i₀ total at i =
-    (i ≤ count) × (at ≡ rowAt start n i) × SumOf i mostRight (rightTerm multipliers place rows start n) (total .sum)
+    (i ≤ count) × (at ≡ rowPlace start n i) × SumOf i mostRight (rightTerm multipliers place rows start n) (total .sum)
 
 abbrev μ-loop : tie.MeasureT-loop
 μ-loop rows start n multipliers place count stride right total₀ at₀ i₀ total at i = count - i
 
+-- where the call started
+abbrev start : tie.At-loop Inv-loop μ-loop → tie.Start Inv-loop μ-loop
+start c = c .before .before .before .before
+
 -- the row of this turn lies within the bytes
 inside : (c : tie.In-loop Inv-loop μ-loop)
-    → let args = c .before .before .before .before .before .args in rowAt (args .start) (args .n) (c .before .loop .i + 1) ≤ length (args .rows .now)
+    → let args = start (c .before) .args in rowPlace (args .start) (args .n) (c .before .loop .i + 1) ≤ length (args .rows .now)
 inside c =
-    let start = c .before .before .before .before .before in
-    row-inside (start .args .rows .now) (start .args .start) (start .args .n) (start .args .count) (c .before .loop .i) (start .pre .0) (c .loop-test .taken)
+    let s = start (c .before) in
+    row-inside (s .args .rows .now) (s .args .start) (s .args .n) (s .args .count) (c .before .loop .i) (s .pre .0) (c .loop-test .taken)
 
 mul-stride : tie.Need-mul-stride Inv-loop μ-loop
 mul-stride c = search needs
@@ -71,7 +75,7 @@ unfolding multiplierAt rightTerm
 loop-again c =
     let read = c .before .u16-at in
     let turn = c .before .before .before in
-    let args = turn .before .before .before .before .args in (
+    let args = start turn .args in (
       omega arith,
       omega arith,
       sum-more mostRight (rightTerm (args .multipliers .now) (args .place) (args .rows .now) (args .start) (args .n)) (turn .loop .i) (turn .loop .inv .2)
@@ -80,7 +84,7 @@ loop-again c =
 
 returns : tie.Need-returns Inv-loop μ-loop
 returns c =
-    let end : c .before .loop .i ≡ c .before .before .before .before .before .args .count = omega arith in
+    let end : c .before .loop .i ≡ start (c .before) .args .count = omega arith in
     rw end at (c .before .loop .inv .2)
 
 pub right-of-spec : {M : Type 1} → statement M

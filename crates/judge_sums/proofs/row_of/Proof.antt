@@ -15,6 +15,10 @@ Inv-loop rows row n certificate place next v w sums₀ j₀ sums j =
 abbrev μ-loop : tie.MeasureT-loop
 μ-loop rows row n certificate place next v w sums₀ j₀ sums j = n - j
 
+-- where the call started
+abbrev start : tie.After-new4 Inv-loop μ-loop → tie.Start Inv-loop μ-loop
+start c = c .before .before .before .before .before .before
+
 mul-next : tie.Need-mul-next Inv-loop μ-loop
 mul-next c = search needs
 
@@ -47,7 +51,7 @@ new-requires-4 c κs = search needs
 
 loop-holds : tie.Need-loop-holds Inv-loop μ-loop
 loop-holds c =
-    let args = c .before .before .before .before .before .before .args in (
+    let args = start c .args in (
       omega arith,
       along-none (args .rows .now) (args .row) (args .n) (args .certificate .now) (args .place)
           (c .before .before .before .new .ensures) (c .before .before .new2 .ensures) (c .before .new3 .ensures) (c .new4 .ensures),
@@ -95,12 +99,12 @@ loop-less c = search needs
 loop-again : tie.Need-loop-again Inv-loop μ-loop
 loop-again c =
     let turn = c .before .before in
-    let args = turn .before .before .before .before .before .before .before .args in
+    let args = start (turn .before) .args in
     (omega arith, along-more (args .rows .now) (args .row) (args .n) (args .certificate .now) (args .place) (turn .loop .j) (turn .loop .inv .1) (c .visit .ensures))
 
 returns : tie.Need-returns Inv-loop μ-loop
 returns c =
-    let end : c .before .loop .j ≡ c .before .before .before .before .before .before .before .before .args .n = omega arith in
+    let end : c .before .loop .j ≡ start (c .before .before) .args .n = omega arith in
     rw end at (c .before .loop .inv .1)
 
 pub row-of-spec : {M : Type 1} → statement M

@@ -1,4 +1,5 @@
--- What the judge's functions are told of the records: that they are sound, with the loop's counts and the certificate's kind; and what they tell of them.
+-- What the judge's functions are told of the records: that they are sound, with the loop's counts and the certificate's kind; and what
+-- they tell of them.
 use Prim.Native.Nat.{ℕ}
 use mathlib.Core.Bool.{Bool, true, cond}
 use mathlib.Core.Path.{_≡_}

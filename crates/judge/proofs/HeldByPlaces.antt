@@ -17,13 +17,13 @@ use Rattle.record.specs.Fields.{width, widths, number, Field, values}
 use Rattle.record.specs.Readers.{Reader, kind, counts-read, fields, list-start, list}
 use Rattle.record.specs.Layouts.{loop, ranking, exclusion, lasso, is-loop, variable-count, row-count, scale, direction, counts, layout, ahead, listed, entry, right-side, multiplier, row, rowsOf}
 use Rattle.judge_sums.specs.Lists.{multipliersFrom, entriesFrom, rightsFrom, rowFrom, rowsFrom}
-use Rattle.judge_sums.specs.Places.{entryAt, rightAt, multiplierAt, rowAt}
+use Rattle.judge_sums.specs.Places.{entryAt, rightAt, multiplierAt, rowPlace}
 use Rattle.theory.specs.Loops.{A, over}
 use Rattle.judge_conditions.specs.LoopHeld.{loop-held}
 use Rattle.judge_ranking.specs.RankingHeld.{ranking-held}
 use Rattle.judge_exclusion.specs.ExclusionHeld.{exclusion-held}
 use Rattle.judge_lasso.specs.LassoHeld.{lasso-held, s-place, s0-place, T-place, k2-place, H-place, h0-place, Y-place}
-use Rattle.judge.specs.Told.{first-row}
+use Rattle.judge.specs.SoundRecords.{first-row}
 use Rattle.verdict.specs.Contents.{rows-from, ranking-from, exclusion-from, lasso-from, loop-in, ranking-in, exclusion-in, lasso-in}
 
 -- the number of a field at a place
@@ -110,7 +110,7 @@ rows-held n zero gs bytes place =
 rows-held n (suc m) gs bytes place =
     let more = rowsOf n m ++ gs in
     let rest = rows-held n m gs bytes (place + (4 * n + 4)) in
-    let here : rowAt place n 0 ≡ place = omega arith in
+    let here : rowPlace place n 0 ≡ place = omega arith in
     let length-step : suc m * (n + n + 1) ≡ n + n + 1 + m * (n + n + 1) = omega arith in
     let end : place + (4 * n + 4) + m * (4 * n + 4) ≡ place + suc m * (4 * n + 4) = omega arith in
     rw (append-assoc (row n) (rowsOf n m) gs, here, length-step, ← drop-drop (m * (n + n + 1)) (n + n + 1) (row-list n more bytes place), row-rest n more bytes place) (
@@ -119,7 +119,7 @@ rows-held n (suc m) gs bytes place =
       rest .1 ∙ ap (λ (p : ℕ). values gs (drop p bytes)) end,
     )
   where
-    next-row : (n place i : ℕ) → rowAt (place + (4 * n + 4)) n i ≡ rowAt place n (suc i)
+    next-row : (n place i : ℕ) → rowPlace (place + (4 * n + 4)) n i ≡ rowPlace place n (suc i)
     next-row n place i = omega arith
 
 -- ---- the records

@@ -17,7 +17,7 @@ use Rattle.theory.specs.Rankings as Rankings
 use Rattle.judge_conditions.specs.Whether.{Whether}
 use Rattle.judge_lasso.specs.LassoHeld.{lasso-held}
 use Rattle.judge_ranking.specs.declared.Ranked.{Ranked}
-use Rattle.judge.specs.Told.{rank-outcome}
+use Rattle.judge.specs.SoundRecords.{rank-outcome}
 
 -- a state that passes its tests: n entries, all in range
 abbrev pub StateFits : List ℤ → ℕ → Type 0
@@ -39,15 +39,22 @@ pub record BoundFits (entries : List ℤ) (n : ℕ) (start fall : ℤ) (state : 
 abbrev pub Speaks-of : List ℕ → ℕ → ℕ → ℕ → ℕ → List ℤ → Type 0
 Speaks-of certificate n m kind ms state = kind ≡ 4 → Invariant (lasso-held certificate n m ms) state
 
--- the answer of a kind that has a rank and whose conditions hold: 11 at a state outside the invariant, and otherwise its outcome and the bound
-pub record BoundSpoken (shown : Ranked) (entries : List ℤ) (n m : ℕ) (certificate : List ℕ) (kind ms : ℕ) (state : List ℤ) (r : Bounded) : Type 0 where
+-- the answer of a kind that has a rank and whose conditions hold: 11 at a state outside the invariant, and otherwise its outcome and the
+-- bound
+pub record BoundSpoken (shown : Ranked) (entries : List ℤ) (n m : ℕ)
+    (certificate : List ℕ) (kind ms : ℕ) (state : List ℤ) (r : Bounded) : Type 0 where
   pub spoken : Bool
   pub decided : Whether spoken (Speaks-of certificate n m kind ms state)
   pub outside : spoken ≡ false → r ≡ no-bound 2 11 0
   pub bounded : spoken ≡ true
-      → r ≡ record { verdict = shows (rank-outcome (kindOf kind) (shown .start) (shown .fall)); bound = Rankings.bound (take n entries) (shown .start) (shown .fall) state }
+      → r
+      ≡ record {
+        verdict = shows (rank-outcome (kindOf kind) (shown .start) (shown .fall));
+        bound = Rankings.bound (take n entries) (shown .start) (shown .fall) state;
+      }
 
 -- from what its conditions tell: 8 where they fail
-pub record BoundShown (shown : Ranked) (entries : List ℤ) (n m : ℕ) (certificate : List ℕ) (kind ms : ℕ) (state : List ℤ) (r : Bounded) : Type 0 where
+pub record BoundShown (shown : Ranked) (entries : List ℤ) (n m : ℕ)
+    (certificate : List ℕ) (kind ms : ℕ) (state : List ℤ) (r : Bounded) : Type 0 where
   pub fails : shown .holds ≡ false → r ≡ no-bound 2 8 0
   pub holds-so : shown .holds ≡ true → BoundSpoken shown entries n m certificate kind ms state r

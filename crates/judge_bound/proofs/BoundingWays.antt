@@ -8,8 +8,8 @@ use Rattle.verdict.specs.StateTests.{state-tests}
 use Rattle.verdict.specs.Pairs.{conditions}
 use Rattle.verdict.specs.Stages.{refusal, said, verdict-of}
 use Rattle.verdict.proofs.StageLaws.{stage-done, stage-refused}
-use Rattle.judge.proofs.Ways.{told-eight}
-use Rattle.judge_bound.specs.Told.{no-bound}
+use Rattle.judge.proofs.JudgingWays.{told-eight}
+use Rattle.judge_bound.specs.BoundShown.{no-bound}
 
 pub refused-so : (b : Bounding) (about number place : ℕ) → said bounding b ≡ refusal about number place → no-bound about number place ≡ bounds b
 unfolding bounds bounded verdict-of
