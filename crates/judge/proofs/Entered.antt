@@ -11,7 +11,7 @@ use Rattle.record_check.specs.Checks.{checked, checks}
 use Rattle.record_check.specs.declared.Checked.{Checked}
 use Rattle.record_check.proofs.CheckAnswers as Answers
 use Rattle.verdict.specs.Pairs.{loop-record, certificate-record}
-use Rattle.judge.specs.SoundRecords.{LoopSound, CertificateSound, RankSound}
+use Rattle.judge.specs.SoundPairs.{LoopSound, CertificateSound, RankSound}
 
 -- ---- the loop
 

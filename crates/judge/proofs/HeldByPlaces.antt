@@ -23,7 +23,7 @@ use Rattle.judge_conditions.specs.LoopHeld.{loop-held}
 use Rattle.judge_ranking.specs.RankingHeld.{ranking-held}
 use Rattle.judge_exclusion.specs.ExclusionHeld.{exclusion-held}
 use Rattle.judge_lasso.specs.LassoHeld.{lasso-held, s-place, s0-place, T-place, k2-place, H-place, h0-place, Y-place}
-use Rattle.judge.specs.SoundRecords.{first-row}
+use Rattle.judge.specs.SoundPairs.{first-row}
 use Rattle.verdict.specs.Contents.{rows-from, ranking-from, exclusion-from, lasso-from, loop-in, ranking-in, exclusion-in, lasso-in}
 
 -- the number of a field at a place

@@ -23,7 +23,7 @@ use Rattle.verdict.specs.Stages.{agreed, said, shows, refusal-of, verdict-of}
 use Rattle.verdict.specs.declared.Outcome.the-variants.{Exclusion}
 use Rattle.verdict.proofs.Accepted.{room-there, no-room-needed, exclusion-conditions}
 use Rattle.verdict.proofs.StageLaws.{agrees-said}
-use Rattle.judge.specs.SoundRecords.{first-row, LoopSound, CertificateSound, RankedOf, rank-outcome, verdict-shown}
+use Rattle.judge.specs.SoundPairs.{first-row, LoopSound, CertificateSound, RankedOf, rank-outcome, verdict-shown}
 use Rattle.judge.proofs.RankKinds.{by-rank}
 use Rattle.judge.proofs.SoundContents.{loop-of, exclusion-of}
 use Rattle.judge.proofs.JudgingWays.{refused-so, at-room, at-conditions}

@@ -9,7 +9,7 @@ use Rattle.record.specs.Layouts.{Kind, loop, ranking, exclusion, lasso, other, 
 use Rattle.record.proofs.KindLaws.{by-kind}
 use Rattle.verdict.specs.declared.Outcome.{Outcome}
 use Rattle.verdict.specs.declared.Outcome.the-variants.{Nothing}
-use Rattle.judge.specs.SoundRecords.{CertificateSound, RankSound, rank-outcome}
+use Rattle.judge.specs.SoundPairs.{CertificateSound, RankSound, rank-outcome}
 
 pub by-rank : (P : Kind → Type 0) (k : Kind) → has-rank k ≡ true → P ranking → P lasso → P k
 unfolding has-rank

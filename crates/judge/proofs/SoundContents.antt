@@ -18,7 +18,7 @@ use Rattle.verdict.specs.Contents.{loop-in, ranking-in, exclusion-in, lasso-in}
 use Rattle.verdict.specs.Pairs as Pairs
 use Rattle.verdict.specs.Pairs.{loop-record, certificate-record, Pair, pair-of, kind-of}
 use Rattle.verdict.proofs.Accepted.{ranking-conditions, lasso-conditions}
-use Rattle.judge.specs.SoundRecords.{first-row, LoopSound, CertificateSound, RankedOf}
+use Rattle.judge.specs.SoundPairs.{first-row, LoopSound, CertificateSound, RankedOf}
 use Rattle.judge.proofs.HeldByPlaces.{loop-is, ranking-is, exclusion-is, lasso-is}
 use Rattle.judge.proofs.SoundSizes.{loop-kind, counts-are}
 

@@ -12,7 +12,7 @@ use Rattle.record.proofs.SoundRecords.{Sound, sound-says, arguments-read, count
 use Rattle.judge_sums.specs.Places.{RowsIn, MultipliersIn}
 use Rattle.judge_lasso.specs.LassoHeld.{LassoIn}
 use Rattle.verdict.specs.Pairs.{loop-record, certificate-record}
-use Rattle.judge.specs.SoundRecords.{first-row, LoopSound, CertificateSound}
+use Rattle.judge.specs.SoundPairs.{first-row, LoopSound, CertificateSound}
 
 -- ---- the loop
 

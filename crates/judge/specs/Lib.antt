@@ -1,2 +1,2 @@
 -- what judging's functions know of sound records
-pub mod SoundRecords
+pub mod SoundPairs

@@ -7,7 +7,7 @@ ghost use Rattle.record.specs.Layouts.{exclusion, kindOf};
 ghost use Rattle.verdict.specs.Judging.{judges, rank-after, judge-of, certificates-judged};
 ghost use Rattle.verdict.specs.Outcomes.{grade-of};
 ghost use Rattle.verdict.specs.Stages.{shows, refusal-of};
-ghost use Rattle.judge.specs.SoundRecords.{LoopSound, CertificateSound, RankSound, rank-outcome, verdict-shown, Judged};
+ghost use Rattle.judge.specs.SoundPairs.{LoopSound, CertificateSound, RankSound, rank-outcome, verdict-shown, Judged};
 use judge_ranking::Ranked;
 use record::Wanted;
 use verdict::Grade;

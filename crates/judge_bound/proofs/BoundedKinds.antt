@@ -35,7 +35,7 @@ use Rattle.verdict.proofs.StageLaws.{agrees-said}
 use Rattle.verdict.proofs.SumsFit.{Ranking-sums-fit}
 use Rattle.verdict.proofs.SmallSums.{small-state}
 use Rattle.verdict.proofs.SumsFitInBytes.{ranking-sums-fit, lasso-sums-fit-in}
-use Rattle.judge.specs.SoundRecords.{LoopSound, RankSound, RankedOf, rank-outcome}
+use Rattle.judge.specs.SoundPairs.{LoopSound, RankSound, RankedOf, rank-outcome}
 use Rattle.judge.proofs.JudgedKinds.{outcome-is}
 use Rattle.judge.proofs.RankKinds.{by-number, as-ranking, as-lasso}
 use Rattle.judge.proofs.SoundSizes.{loop-kind, counts-are, lasso-long}

@@ -17,7 +17,7 @@ use Rattle.theory.specs.Rankings as Rankings
 use Rattle.judge_conditions.specs.Whether.{Whether}
 use Rattle.judge_lasso.specs.LassoHeld.{lasso-held}
 use Rattle.judge_ranking.specs.declared.Ranked.{Ranked}
-use Rattle.judge.specs.SoundRecords.{rank-outcome}
+use Rattle.judge.specs.SoundPairs.{rank-outcome}
 
 -- a state that passes its tests: n entries, all in range
 abbrev pub StateFits : List ℤ → ℕ → Type 0

@@ -11,7 +11,7 @@ ghost use Rattle.theory.specs.Lassos.{Invariant};
 ghost use Rattle.verdict.specs.Bounding.{bounds, bound-of, certificates-bounded};
 ghost use Rattle.judge_conditions.specs.Whether.{Whether};
 ghost use Rattle.judge_lasso.specs.LassoHeld.{LassoIn, lasso-held};
-ghost use Rattle.judge.specs.SoundRecords.{LoopSound, RankSound};
+ghost use Rattle.judge.specs.SoundPairs.{LoopSound, RankSound};
 ghost use Rattle.judge_bound.specs.BoundShown.{no-bound, StateFits, BoundFits, BoundShown};
 use judge_ranking::Ranked;
 use record::Wanted;

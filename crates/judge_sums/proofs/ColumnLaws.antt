@@ -9,7 +9,7 @@ use lib.ListN.{length}
 use Rattle.endian.specs.Numbers.{littleAt}
 use Rattle.judge_sums.specs.Places.{entryAt, rightAt, multiplierAt, rowPlace, nowTerm, nextTerm, alongTerm, RowsIn, Visited, ColumnOf, AlongOf, mostEntry, mostAlong}
 use Rattle.judge_sums.specs.Running.{Adds}
-use Rattle.judge_sums.proofs.SumLaws.{sum-none, sum-more, adds-nothing}
+use Rattle.judge_sums.proofs.RunningLaws.{sum-none, sum-more, adds-nothing}
 
 pub row-inside : (bytes : List ℕ) (start n count i : ℕ) → RowsIn bytes start n count → i < count → rowPlace start n (i + 1) ≤ length bytes
 row-inside bytes start n count i rows below = omega (arith, rows .inside, mul-le-mul-right (4 * n + 4) below)

@@ -3,4 +3,4 @@ pub mod LiftLaws
 pub mod ListLaws
 pub mod Sample
 pub mod SideLaws
-pub mod SumLaws
+pub mod RunningLaws

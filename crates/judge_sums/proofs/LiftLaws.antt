@@ -16,7 +16,7 @@ use Rattle.whole.proofs.Solve.{v, _⊕_, _⊝_, _⊗_, solve}
 use Rattle.whole.proofs.Tables.{total-none, total-more, total-same}
 use Rattle.judge_sums.specs.Places.{entryAt, multiplierAt, rowPlace, entryTerm, liftTerm, Lifts, RowAdded, RestStays, nowTerm, nextTerm, AllGrow, AllModest, AllNone, SumsOf, ColumnOf, mostEntry}
 use Rattle.judge_sums.specs.Running.{CanGrow, SumOf}
-use Rattle.judge_sums.proofs.SumLaws.{sum-none, sum-more}
+use Rattle.judge_sums.proofs.RunningLaws.{sum-none, sum-more}
 
 -- a total that can grow is the same when it is passed on
 pub grown : (s : ℤ) → CanGrow s → toZ w64 (ofZ w64 s) ≡ s

@@ -3,8 +3,10 @@
 use Rattle.endian.specs.Numbers.{little, littleAt, digits, signed, unsigned}
 use Rattle.refusal.specs.Tests.{first}
 use Rattle.record.specs.Fields.{width, number, stored, holds, widths, values, bytesOf, in-range, before-fault}
-use Rattle.record.specs.Layouts.{kindOf, is-loop, is-lasso, is-known, has-rank, variable-count, row-count, entry, right-side, multiplier, scale, direction, row, rowsOf, counts, layout, lengthOf, ahead, listed}
-use Rattle.record.specs.Ranges.{_to_, either-way, variables, rows, entries, right-sides, multipliers, scales, directions, state-entries, within}
+use Rattle.record.specs.Layouts.{kindOf, is-loop, is-lasso, is-known, has-rank, variable-count, row-count, entry, right-side}
+use Rattle.record.specs.Layouts.{multiplier, scale, direction, row, rowsOf, counts, layout, lengthOf, ahead, listed}
+use Rattle.record.specs.Ranges.{_to_, either-way, variables, rows, entries, right-sides, multipliers, scales, directions}
+use Rattle.record.specs.Ranges.{state-entries, within}
 use Rattle.record.specs.Readers as R
 use Rattle.record.specs.Wants.{wants-of, kinds-written}
 use Rattle.record.specs.Writers as W

@@ -1,5 +1,5 @@
--- Four records of 01's sample sheet, and four in which no two numbers of one form are alike: their bytes written out from 01's layout, and the values that
--- they hold.
+-- Four records of 01's sample sheet, and four in which no two numbers of one form are alike: their bytes written out from 01's
+-- layout, and the values that they hold.
 use Prim.Native.Nat.{ℕ}
 use mathlib.Core.List.{List, [], _∷_}
 use lib.IntN.{ℤ, pos, negsuc, negℤ}
@@ -155,8 +155,8 @@ unlike-exclusion =
           ∷ [];
     }
 
--- a lasso with two stem rows, 3x - 9y - x' + y' <= 10 and -4x + 12y - 10x' + 10y' <= 15, for three rows: s (2,-2), s0 5, k 17, T (4,3), k2 10,
--- H (18,16,9), h0 13, Y (14,12,6,15), Z (11,8,5,19)
+-- a lasso with two stem rows, 3x - 9y - x' + y' <= 10 and -4x + 12y - 10x' + 10y' <= 15, for three rows: s (2,-2), s0 5, k 17, T
+-- (4,3), k2 10, H (18,16,9), h0 13, Y (14,12,6,15), Z (11,8,5,19)
 unfoldable pub unlike-lasso : Sample
 unlike-lasso =
     record {

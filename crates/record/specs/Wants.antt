@@ -1,7 +1,7 @@
--- Which kinds a call wants. 01: "The loop reader wants kind 1, the certificate reader kinds 2 to 4", of a bound call "kind 3 gives 4", and
--- "A kind not named for a call gives 4". What a call wants is a value, and each call has its own: here `loops-read`, `certificates-read` and
--- `kinds-written`; where judging and bound are defined (crate `verdict`) `loops-judged`, `certificates-judged` and `certificates-bounded`.
--- So a later kind can come to one call without another.
+-- Which kinds a call wants. 01: "The loop reader wants kind 1, the certificate reader kinds 2 to 4", of a bound call "kind 3 gives
+-- 4", and "A kind not named for a call gives 4". What a call wants is a value, and each call has its own: here `loops-read`,
+-- `certificates-read` and `kinds-written`; where judging and bound are defined (crate `verdict`) `loops-judged`,
+-- `certificates-judged` and `certificates-bounded`. So a later kind can come to one call without another.
 use mathlib.Core.Bool.{Bool, true, false}
 use Rattle.record.specs.declared.Wanted.{Wanted}
 use Rattle.record.specs.Layouts.{Kind, loop, ranking, exclusion, lasso, other, is-loop}

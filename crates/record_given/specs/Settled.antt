@@ -1,4 +1,5 @@
--- What is told of what came to a writer before the room is looked at: 01's order for a writing up to 6, in two parts, and the ms that it gives.
+-- What is told of what came to a writer before the room is looked at: 01's order for a writing up to 6, in two parts, and the ms
+-- that it gives.
 use Prim.Native.Nat.{ℕ}
 use mathlib.Core.List.{List}
 use lib.ListN.{take}

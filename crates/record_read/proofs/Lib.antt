@@ -1,3 +1,3 @@
-pub mod Lists
+pub mod ReadLists
 pub mod Unpacked
 pub mod OneAnswer

@@ -9,7 +9,7 @@ use Rattle.decimal.specs.Rooms.{written, Puts}
 use Rattle.record.specs.Readers.{sound}
 use Rattle.refusal.specs.Tests.{Told, done, refused, first}
 use Rattle.verdict.specs.Pairs.{loop-record}
-use Rattle.judge.specs.SoundRecords.{LoopSound}
+use Rattle.judge.specs.SoundPairs.{LoopSound}
 use Rattle.record_parting.specs.Parting.{taken, first-record, records}
 use Rattle.sheet_text.specs.Sheets.{certificate-line, lines, judged, sheet-text}
 use Rattle.sheet_text.proofs.TextLaws.{text-parted, lines-none, lines-turn}

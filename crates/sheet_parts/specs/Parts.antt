@@ -4,7 +4,7 @@ use mathlib.Core.Path.{_≡_}
 use Prim.Native.Nat.{ℕ, _+_, _≤_, _<_}
 use mathlib.Core.List.{List, [], _∷_, _++_}
 use lib.ListN.{length, take, drop}
-use Rattle.judge.specs.SoundRecords.{LoopSound}
+use Rattle.judge.specs.SoundPairs.{LoopSound}
 use Rattle.record_parting.specs.Parting.{first-record, records}
 use Rattle.sheet_text.specs.Sheets.{lines}
 use Rattle.sheet_parts.specs.declared.Part.{Part}

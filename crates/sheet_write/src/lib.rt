@@ -8,7 +8,7 @@ ghost use Rattle.decimal.specs.Rooms.{Puts};
 ghost use Rattle.record.specs.Readers.{sound};
 ghost use Rattle.refusal.specs.Tests.{first};
 ghost use Rattle.verdict.specs.Pairs.{loop-record};
-ghost use Rattle.judge.specs.SoundRecords.{LoopSound};
+ghost use Rattle.judge.specs.SoundPairs.{LoopSound};
 ghost use Rattle.record_parting.specs.Parting.{records};
 ghost use Rattle.sheet_text.specs.Sheets.{certificate-line, lines, judged, sheet-text, worst, sheet-answers, room-after};
 

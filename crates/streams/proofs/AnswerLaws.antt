@@ -13,7 +13,7 @@ use mir.Facts.{toZ-ofZ}
 use mir.Syntax.{w32}
 use mir.Val.{SFits, toZ, ofZ}
 use Rattle.io.specs.Counts.{Counts, clamped}
-use Rattle.streams.specs.Steps.{passes, step-of, Within, Tells}
+use Rattle.streams.specs.SystemAnswers.{passes, step-of, Within, Tells}
 use Rattle.streams.specs.declared.Reached.{Reached}
 use Rattle.streams.specs.declared.Step.{Step}
 use Rattle.streams.specs.declared.Step.the-variants.{Moved, Nothing, Again, Failed}

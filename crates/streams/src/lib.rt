@@ -8,7 +8,7 @@ ghost use mathlib.Core.Path.{_≡_};
 ghost use mathlib.Core.Bool.{true, false};
 ghost use lib.ListN.{length};
 ghost use Rattle.io.specs.Counts.{Counts};
-ghost use Rattle.streams.specs.Steps.{passes, step-of, Within, Tells};
+ghost use Rattle.streams.specs.SystemAnswers.{passes, step-of, Within, Tells};
 
 // What a read or a write did.
 enum Step {

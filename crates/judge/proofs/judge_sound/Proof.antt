@@ -10,7 +10,7 @@ use Rattle.record_check.specs.declared.Checked.{Checked}
 use Rattle.record.proofs.KindLaws.{unwanted-kind}
 use Rattle.verdict.specs.Judging.{judge-of, certificates-judged}
 use Rattle.verdict.specs.Pairs.{loop-record, certificate-record}
-use Rattle.judge.specs.SoundRecords.{CertificateSound, RankSound}
+use Rattle.judge.specs.SoundPairs.{CertificateSound, RankSound}
 use Rattle.judge.proofs.Entered.{certificate-refused, no-other, sound-as, rank-sound-as}
 use Rattle.judge.proofs.RankKinds.{two-or-four}
 use Rattle.judge.proofs.JudgingWays.{refused-so, at-certificate}

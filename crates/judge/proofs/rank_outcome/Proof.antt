@@ -1,7 +1,7 @@
 -- `judge::rank_outcome` meets its contract. Assumes nothing.
 use mir.Facts.{toZ-ofZ}
 use Rattle.record.specs.Layouts.{kindOf}
-use Rattle.judge.specs.SoundRecords.{rank-outcome}
+use Rattle.judge.specs.SoundPairs.{rank-outcome}
 use Rattle.judge.proofs.RankKinds.{no-outcome}
 use Rattle.judge.proofs.rank_outcome.Statement.{statement}
 use Rattle.judge.proofs.rank_outcome.Tie as tie

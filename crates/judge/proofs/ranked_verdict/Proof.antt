@@ -6,7 +6,7 @@ use mir.Facts.{toZ-ofZ}
 use borrow.Author.Needs.{needs}
 use borrow.Author.Tests.{not-true, not-false}
 use Rattle.verdict.specs.Stages.{shows}
-use Rattle.judge.specs.SoundRecords.{verdict-shown}
+use Rattle.judge.specs.SoundPairs.{verdict-shown}
 use Rattle.judge.proofs.ranked_verdict.Statement.{statement}
 use Rattle.judge.proofs.ranked_verdict.Tie as tie
 

@@ -12,7 +12,7 @@ use Rattle.whole.specs.Sums.{Within}
 use Rattle.judge_lasso.specs.LassoHeld.{LassoIn}
 use Rattle.judge_ranking.specs.declared.Ranked.{Ranked}
 use Rattle.verdict.specs.Pairs.{pair-of}
-use Rattle.judge.specs.SoundRecords.{RankedOf}
+use Rattle.judge.specs.SoundPairs.{RankedOf}
 use Rattle.judge.proofs.RankKinds.{no-others, as-ranking, as-lasso}
 use Rattle.judge.proofs.SoundSizes.{n-few, m-few, rows-in, ranking-long, lasso-long}
 use Rattle.judge.proofs.SoundContents.{ranking-told, lasso-told}

@@ -11,7 +11,7 @@ use Rattle.record_check.specs.declared.Checked.{Checked}
 use Rattle.verdict.specs.Bounding.{bound-of, certificates-bounded}
 use Rattle.verdict.specs.Pairs.{loop-record, certificate-record, variables-of}
 use Rattle.verdict.specs.StateTests.{Given-state, state-tests}
-use Rattle.judge.specs.SoundRecords.{RankSound}
+use Rattle.judge.specs.SoundPairs.{RankSound}
 use Rattle.judge.proofs.Entered.{certificate-refused, certificate-told, kind-wanted, rank-sound-as}
 use Rattle.judge.proofs.RankKinds.{no-others}
 use Rattle.judge_state.proofs.StateLaws.{state-refused, state-done}

@@ -5,7 +5,7 @@ use native.Mathlib.Omega.{arith}
 use lib.IntN.{pos, _*ℤ_}
 use Rattle.whole.proofs.Size.{abs-add}
 use Rattle.judge_sums.specs.Running.{Adds}
-use Rattle.judge_sums.proofs.SumLaws.{may-add, added}
+use Rattle.judge_sums.proofs.RunningLaws.{may-add, added}
 use borrow.Author.Needs.{needs}
 use Rattle.judge_longer.proofs.and_times.Statement.{statement}
 use Rattle.judge_longer.proofs.and_times.Tie as tie

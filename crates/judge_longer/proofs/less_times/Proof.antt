@@ -7,7 +7,7 @@ use mir.Facts.{toZ-ofZ}
 use Rattle.whole.proofs.Size.{abs-add, abs-neg}
 use Rattle.whole.proofs.Solve.{v, _⊕_, _⊝_, _⊗_, solve}
 use Rattle.judge_sums.specs.Running.{Adds}
-use Rattle.judge_sums.proofs.SumLaws.{may-add, added}
+use Rattle.judge_sums.proofs.RunningLaws.{may-add, added}
 use Rattle.judge_conditions.proofs.WhetherLaws.{minus-fits}
 use borrow.Author.Needs.{needs, sfits-of}
 use Rattle.judge_longer.proofs.less_times.Statement.{statement}

@@ -3,7 +3,7 @@ use native.Mathlib.Omega.{arith}
 use lib.IntN.{pos}
 use mir.Facts.{toZ-ofZ}
 use Rattle.judge_sums.specs.Places.{entryAt}
-use Rattle.judge_sums.proofs.SumLaws.{may-add, lifted-added}
+use Rattle.judge_sums.proofs.RunningLaws.{may-add, lifted-added}
 use Rattle.whole.proofs.Size.{back}
 use borrow.Author.Needs.{needs, sfits-of}
 use Rattle.judge_sums.proofs.add_lifted.Statement.{statement}

@@ -1,7 +1,7 @@
 -- `judge_sums::add_product` meets its contract. Assumes nothing.
 use native.Mathlib.Omega.{arith}
 use Rattle.judge_sums.specs.Places.{entryAt, rightAt}
-use Rattle.judge_sums.proofs.SumLaws.{may-add, added}
+use Rattle.judge_sums.proofs.RunningLaws.{may-add, added}
 use borrow.Author.Needs.{needs}
 use Rattle.judge_sums.proofs.add_product.Statement.{statement}
 use Rattle.judge_sums.proofs.add_product.Tie as tie

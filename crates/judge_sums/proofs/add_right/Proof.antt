@@ -3,7 +3,7 @@ use mathlib.Core.Path.{refl}
 use native.Mathlib.Omega.{arith}
 use lib.IntN.{pos}
 use Rattle.judge_sums.specs.Places.{rightAt}
-use Rattle.judge_sums.proofs.SumLaws.{may-add, added}
+use Rattle.judge_sums.proofs.RunningLaws.{may-add, added}
 use borrow.Author.Needs.{needs}
 use Rattle.judge_sums.proofs.add_right.Statement.{statement}
 use Rattle.judge_sums.proofs.add_right.Tie as tie

@@ -6,7 +6,7 @@ use lib.IntN.{pos}
 use lib.ListN.{length, getD}
 use Rattle.judge_sums.specs.Places.{entryAt, stateTerm, mostState}
 use Rattle.judge_sums.specs.Running.{SumOf}
-use Rattle.judge_sums.proofs.SumLaws.{sum-none, sum-more, may-add, added}
+use Rattle.judge_sums.proofs.RunningLaws.{sum-none, sum-more, may-add, added}
 use borrow.Author.Needs.{needs}
 use Rattle.judge_sums.proofs.entries_at.Statement.{statement}
 use Rattle.judge_sums.proofs.entries_at.Tie as tie

@@ -5,7 +5,7 @@ use native.Mathlib.Omega.{arith}
 use lib.IntN.{pos}
 use Rattle.judge_sums.specs.Places.{multiplierAt, liftTerm, mostEntry}
 use Rattle.judge_sums.specs.Running.{SumOf}
-use Rattle.judge_sums.proofs.SumLaws.{sum-none, sum-more, may-add, added}
+use Rattle.judge_sums.proofs.RunningLaws.{sum-none, sum-more, may-add, added}
 use borrow.Author.Needs.{needs}
 use Rattle.judge_sums.proofs.lift_of.Statement.{statement}
 use Rattle.judge_sums.proofs.lift_of.Tie as tie

@@ -8,7 +8,7 @@ use lib.ListN.{length, getD}
 use Rattle.whole.proofs.Tables.{dot-total}
 use Rattle.judge_sums.specs.Places.{mostRank}
 use Rattle.judge_sums.specs.Running.{SumOf}
-use Rattle.judge_sums.proofs.SumLaws.{sum-none, sum-more, may-add, added}
+use Rattle.judge_sums.proofs.RunningLaws.{sum-none, sum-more, may-add, added}
 use borrow.Author.Needs.{needs}
 use Rattle.judge_sums.proofs.rank_at.Statement.{statement}
 use Rattle.judge_sums.proofs.rank_at.Tie as tie

@@ -6,7 +6,7 @@ use lib.ListN.{length}
 use Rattle.judge_sums.specs.Places.{multiplierAt, rowPlace, rightTerm, mostRight}
 use Rattle.judge_sums.specs.Running.{SumOf}
 use Rattle.judge_sums.proofs.ColumnLaws.{row-inside}
-use Rattle.judge_sums.proofs.SumLaws.{sum-none, sum-more}
+use Rattle.judge_sums.proofs.RunningLaws.{sum-none, sum-more}
 use borrow.Author.Needs.{needs}
 use Rattle.judge_sums.proofs.right_of.Statement.{statement}
 use Rattle.judge_sums.proofs.right_of.Tie as tie

@@ -7,7 +7,7 @@ use lib.Seq.{sets}
 use Rattle.record.specs.Layouts.{kindOf, lengthOf}
 use Rattle.record_fields.specs.Runs.{value-count}
 use Rattle.record.proofs.KindLaws.{other-kind}
-use Rattle.record_read.proofs.Lists.{list-1, list-2, list-3, list-4, list-other}
+use Rattle.record_read.proofs.ReadLists.{list-1, list-2, list-3, list-4, list-other}
 use borrow.Author.Needs.{needs}
 use Rattle.record_read.proofs.read_list.Statement.{statement}
 use Rattle.record_read.proofs.read_list.Tie as tie

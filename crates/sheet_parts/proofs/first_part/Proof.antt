@@ -9,7 +9,7 @@ use borrow.Author.Needs.{needs}
 use Rattle.record.specs.Readers.{sound}
 use Rattle.refusal.specs.Tests.{first}
 use Rattle.verdict.specs.Pairs.{loop-record}
-use Rattle.judge.specs.SoundRecords.{LoopSound}
+use Rattle.judge.specs.SoundPairs.{LoopSound}
 use Rattle.judge.proofs.Entered.{loop-refused, loop-sound}
 use Rattle.record_parting.specs.Parting.{taken, first-record}
 use Rattle.sheet_text.specs.Sheets.{judged, sheet-text}

@@ -7,7 +7,7 @@ use native.Mathlib.Omega.{arith}
 use lib.ListN.{length, take, drop, length-drop}
 use lib.Seq.{take-all, length-take-le}
 use borrow.Author.Needs.{needs}
-use Rattle.judge.specs.SoundRecords.{LoopSound}
+use Rattle.judge.specs.SoundPairs.{LoopSound}
 use Rattle.record_parting.specs.Parting.{taken, first-record}
 use Rattle.sheet_text.specs.Sheets.{certificate-line}
 use Rattle.record_parting.proofs.PartingLaws.{taken-within, taken-some}

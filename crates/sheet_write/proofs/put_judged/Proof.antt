@@ -13,7 +13,7 @@ use Rattle.verdict.specs.Pairs.{loop-record}
 use Rattle.record_parting.specs.Parting.{records}
 use Rattle.sheet_text.specs.Sheets.{lines, judged}
 use Rattle.sheet_lines.specs.Words.{bytes, line}
-use Rattle.judge.specs.SoundRecords.{LoopSound}
+use Rattle.judge.specs.SoundPairs.{LoopSound}
 use Rattle.judge.proofs.Entered.{loop-refused, loop-sound}
 use Rattle.sheet_lines.proofs.LineLaws.{loop-word}
 use Rattle.sheet_text.proofs.TextLaws.{judged-first, judged-sound, judged-refused}

@@ -1,6 +1,6 @@
 -- `streams::passing` meets its contract. Assumes nothing.
 use mathlib.Core.Path.{sym}
-use Rattle.streams.specs.Steps.{passes}
+use Rattle.streams.specs.SystemAnswers.{passes}
 use Rattle.streams.proofs.AnswerLaws.{is-number, passes-not}
 use Rattle.streams.proofs.passing.Statement.{statement}
 use Rattle.streams.proofs.passing.Tie as tie

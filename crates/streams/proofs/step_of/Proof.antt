@@ -8,7 +8,7 @@ use mir.Facts.{toZ-ofZ}
 use mir.Syntax.{w64}
 use mir.Val.{toZ, ofZ}
 use borrow.Author.Needs.{needs}
-use Rattle.streams.specs.Steps.{passes, step-of}
+use Rattle.streams.specs.SystemAnswers.{passes, step-of}
 use Rattle.streams.specs.declared.Step.the-variants.{Moved, Again, Failed}
 use Rattle.streams.proofs.AnswerLaws.{step-moved, step-nothing, step-failed}
 use Rattle.streams.proofs.step_of.Statement.{statement}
