@@ -21,6 +21,12 @@ unfoldable pub first : {I : Type 0} → List (Test I) → I → Told
 first [] i = done
 first ((number at place unless holds) ∷ tests) i = elim (holds i) [ true ↦ first tests i | false ↦ refused number (place i) ]
 
+-- what an order in two parts tells: the second speaks where the first is done
+infixr 2 _then_
+unfoldable pub _then_ : Told → Told → Told
+done then told = told
+refused k p then told = refused k p
+
 -- the number of what is told: 0 is done
 unfoldable pub number : Told → ℕ
 number done = 0

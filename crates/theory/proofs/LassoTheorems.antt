@@ -1,22 +1,22 @@
 -- A lasso bounds the runs that follow its stem: start and kept give the invariant at every state, so each step also meets the added row, and the
 -- ranking argument runs over the longer loop.
 use Prim.Native.Nat.{ℕ, _≤_, zero-le}
-use mathlib.Core.Path.{_≡_, sym, _∙_}
 use mathlib.Core.List.{List, [], _∷_}
 use native.Mathlib.Omega.{arith}
-use lib.IntN.{ℤ, pos, negsuc, negℤ, _+ℤ_, _*ℤ_, zero-*ℤ}
-use lib.ListN.{length, getD}
+use lib.IntN.{ℤ, pos, negsuc, negℤ, _+ℤ_, _-ℤ_, _*ℤ_}
+use lib.ListN.{length}
 use lib.Signed.{_≤ℤ_}
-use Rattle.whole.specs.Sums.{dot, sum, Each}
-use Rattle.whole.proofs.Solve.{v, _⊕_, _⊗_, neg, solve-le, eq-fact, le-fact}
-use Rattle.whole.proofs.Ring.{neg-*ℤ, pos-mono, mul-mono, mul-cancel}
+use Rattle.whole.specs.Sums.{dot, Each}
+use Rattle.whole.proofs.Solve.{v, _⊕_, _⊝_, _⊗_, neg, solve-le, le-fact}
+use Rattle.whole.proofs.Ring.{pos-mono, mul-mono, mul-cancel}
 use Rattle.whole.proofs.EachLaws.{each-append}
 use Rattle.whole.proofs.SumLaws.{dot-scale, dot-zeros}
-use Rattle.theory.specs.Loops.{A, A′, b, Loop, Meets, Step, Run, Endless}
+use Rattle.theory.specs.Loops.{Loop, Meets, Step, Run, Endless}
 use Rattle.theory.specs.Rankings.{rank, start, fall, bound}
-use Rattle.theory.specs.Lassos.{Lasso, NonNegativeLasso, LassoHolds, stemOf, added, longer, Invariant, LassoPromise}
-use Rattle.theory.proofs.Steps.{weighted, columns-are}
-use Rattle.theory.proofs.RankingTheorems.{no-difference, no-endless, ranking-bounds-runs}
+use Rattle.theory.specs.Lassos.{Lasso, NonNegativeLasso, LassoHolds, stemOf, added, longer, starting, keeping, Invariant, LassoPromise}
+use Rattle.theory.proofs.Steps.{weighed-step}
+use Rattle.theory.proofs.LassoParts.{start-weighs, kept-weighs}
+use Rattle.theory.proofs.RankingTheorems.{no-endless, ranking-bounds-runs}
 
 -- a scaled number that is not below 0
 unscale : (k : ℕ) (z : ℤ) → 1 ≤ k → pos 0 ≤ℤ (pos k *ℤ z) → pos 0 ≤ℤ z
@@ -30,45 +30,29 @@ module _ (loop : Loop) (c : Lasso) (nonneg : NonNegativeLasso c) (k-positive : 1
   starts : (x x′ : List ℤ) → Step (stemOf loop c) 1 x x′ → Invariant c x′
   starts x x′ t =
       unscale (c .k) _ k-positive
-      (scaled (pos (c .k)) (c .s0) (sum (c .T) b (c .stem)) _ _ (dot (c .s) x) (dot (c .s) x′)
-      (weighted (stemOf loop c) (c .T) 1 x x′ (nonneg .0) t)
-      (columns-are (stemOf loop c) (c .T) A (pos 0) (c .s) x (t .before) (λ j h. holds .start-now j h ∙ sym (zero-*ℤ (getD (c .s) j (pos 0)))))
-      (columns-are (stemOf loop c) (c .T) A′ (negℤ (pos (c .k))) (c .s) x′ (t .after) (λ j h. holds .start-next j h ∙ sym (neg-*ℤ (pos (c .k)) (getD (c .s) j (pos 0)))))
-      (holds .start-right))
+      (scaled (pos (c .k)) (c .s0) (dot (c .s) x) (dot (c .s) x′)
+      (weighed-step (loop .variables) (starting c) 1 x x′ (nonneg .0) (start-weighs loop c holds) t))
     where
-      scaled : (k s0 Td TB·x TB′·x′ s·x s·x′ : ℤ) → (TB·x +ℤ TB′·x′) ≤ℤ (pos 1 *ℤ Td) → TB·x ≡ pos 0 *ℤ s·x → TB′·x′ ≡ negℤ k *ℤ s·x′ → Td ≤ℤ (k *ℤ s0)
-          → pos 0 ≤ℤ (k *ℤ (s·x′ +ℤ s0))
-      scaled k s0 Td TB·x TB′·x′ s·x s·x′ h e f g =
+      scaled : (k s0 s·x s·x′ : ℤ) → (pos 0 *ℤ s·x +ℤ negℤ k *ℤ s·x′) ≤ℤ (pos 1 *ℤ (k *ℤ s0)) → pos 0 ≤ℤ (k *ℤ (s·x′ +ℤ s0))
+      scaled k s0 s·x s·x′ h =
           solve-le (v (pos 0)) (v k ⊗ (v s·x′ ⊕ v s0))
-          (omega (
-            arith,
-            le-fact (v TB·x ⊕ v TB′·x′) (v (pos 1) ⊗ v Td) h,
-            eq-fact (v TB·x) (v (pos 0) ⊗ v s·x) e,
-            eq-fact (v TB′·x′) (neg (v k) ⊗ v s·x′) f,
-            le-fact (v Td) (v k ⊗ v s0) g,
-          ))
+          (omega (arith, le-fact (v (pos 0) ⊗ v s·x ⊕ neg (v k) ⊗ v s·x′) (v (pos 1) ⊗ (v k ⊗ v s0)) h))
 
   -- kept: k2(s·x′ + s0) >= h0(s·x + s0) >= 0 after a loop step
   keeps : (x x′ : List ℤ) → Invariant c x → Step loop 1 x x′ → Invariant c x′
   keeps x x′ i t =
       unscale (c .k2) _ k2-positive
-      (scaled (pos (c .k2)) (pos (c .h0)) (c .s0) (sum (c .H) b (loop .rows)) _ _ (dot (c .s) x) (dot (c .s) x′)
-      (weighted loop (c .H) 1 x x′ (nonneg .1) t)
-      (columns-are loop (c .H) A (pos (c .h0)) (c .s) x (t .before) (λ j h. no-difference _ _ (holds .kept-now j h)))
-      (columns-are loop (c .H) A′ (negℤ (pos (c .k2))) (c .s) x′ (t .after) (λ j h. holds .kept-next j h ∙ sym (neg-*ℤ (pos (c .k2)) (getD (c .s) j (pos 0)))))
-      (holds .kept-right)
+      (scaled (pos (c .k2)) (pos (c .h0)) (c .s0) (dot (c .s) x) (dot (c .s) x′)
+      (weighed-step (loop .variables) (keeping loop c) 1 x x′ (nonneg .1) (kept-weighs loop c holds) t)
       (mul-mono (pos (c .h0)) (pos-mono zero-le) i))
     where
-      scaled : (k2 h0 s0 Hb HA·x HA′·x′ s·x s·x′ : ℤ) → (HA·x +ℤ HA′·x′) ≤ℤ (pos 1 *ℤ Hb) → HA·x ≡ h0 *ℤ s·x → HA′·x′ ≡ negℤ k2 *ℤ s·x′
-          → (Hb +ℤ h0 *ℤ s0) ≤ℤ (k2 *ℤ s0) → (h0 *ℤ pos 0) ≤ℤ (h0 *ℤ (s·x +ℤ s0)) → pos 0 ≤ℤ (k2 *ℤ (s·x′ +ℤ s0))
-      scaled k2 h0 s0 Hb HA·x HA′·x′ s·x s·x′ h e f g i =
+      scaled : (k2 h0 s0 s·x s·x′ : ℤ) → (h0 *ℤ s·x +ℤ negℤ k2 *ℤ s·x′) ≤ℤ (pos 1 *ℤ ((k2 -ℤ h0) *ℤ s0))
+          → (h0 *ℤ pos 0) ≤ℤ (h0 *ℤ (s·x +ℤ s0)) → pos 0 ≤ℤ (k2 *ℤ (s·x′ +ℤ s0))
+      scaled k2 h0 s0 s·x s·x′ h i =
           solve-le (v (pos 0)) (v k2 ⊗ (v s·x′ ⊕ v s0))
           (omega (
             arith,
-            le-fact (v HA·x ⊕ v HA′·x′) (v (pos 1) ⊗ v Hb) h,
-            eq-fact (v HA·x) (v h0 ⊗ v s·x) e,
-            eq-fact (v HA′·x′) (neg (v k2) ⊗ v s·x′) f,
-            le-fact (v Hb ⊕ v h0 ⊗ v s0) (v k2 ⊗ v s0) g,
+            le-fact (v h0 ⊗ v s·x ⊕ neg (v k2) ⊗ v s·x′) (v (pos 1) ⊗ ((v k2 ⊝ v h0) ⊗ v s0)) h,
             le-fact (v h0 ⊗ v (pos 0)) (v h0 ⊗ (v s·x ⊕ v s0)) i,
           ))
 

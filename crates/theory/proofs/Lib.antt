@@ -1,8 +1,10 @@
 pub mod Steps
 pub mod RankingTheorems
 pub mod ExclusionTheorems
+pub mod LassoParts
 pub mod LassoTheorems
 pub mod WeightTheorems
+pub mod Orders
 pub mod Decisions
 pub mod SampleTheorems
 pub mod Pins

@@ -1,10 +1,9 @@
--- The conditions of each kind as tests that compute, in 01's order: the first that fails is told. 01 tells every one of them as 8,
--- place 0; the numbers and places here are those by which 02, Q-1 tells them apart: a column or a row, from 0, and 0 for a right
--- side.
+-- The conditions of each kind as tests that compute, in 01's order, with the numbers and places of 02, Q-1: the first that fails is
+-- told, with its column or its row, from 0, and 0 for a right side.
 use Prim.Native.Nat.{ℕ}
 use mathlib.Core.Bool.{Bool}
 use mathlib.Core.List.{List, [], _∷_, _++_}
-use lib.IntN.{ℤ, pos, negℤ, _+ℤ_, _-ℤ_, _*ℤ_}
+use lib.IntN.{ℤ, pos, _+ℤ_, _*ℤ_}
 use lib.ListN.{length, getD}
 use lib.Signed.{leZ, ltZ}
 use Rattle.refusal.specs.Tests.{Told, Test, _at_unless_, first}
@@ -13,7 +12,8 @@ use Rattle.whole.specs.Sums.{dot, sum, tabulate, less}
 use Rattle.theory.specs.Loops.{Row, A, A′, b, Loop}
 use Rattle.theory.specs.Rankings.{Ranking}
 use Rattle.theory.specs.Exclusions.{Exclusion}
-use Rattle.theory.specs.Lassos.{Lasso, longer}
+use Rattle.theory.specs.Lassos.{Lasso, longer, starting, keeping}
+use Rattle.theory.specs.WeightedRows.{Weighted, sum-of, times-v}
 
 -- what is judged: a loop, and the values of a certificate for it
 pub record Proposal (C : Type 0) : Type 0 where
@@ -57,17 +57,22 @@ exclusionTests m =
     (dot (rowAt i p .now) (less (p .values .W) (p .values .«V»)) +ℤ dot (rowAt i p .next) (p .values .W))
     (pos (p .values .q) *ℤ rowAt i p .right))
 
--- ---- lasso: TB = 0; TB′ = -k s; Td <= k s0; HA - h0 s = 0; HA′ = -k2 s; Hb + h0 s0 <= k2 s0; then the ranking over the longer loop
+-- ---- weighted rows: over A, over A′, over the right sides, each with the number of its use; for n variables
 
-abbrev pub T-sum : Proposal Lasso → (Row → ℤ) → ℤ
-T-sum p f = sum (p .values .T) f (p .values .stem)
+unfoldable pub weighedTests : ℕ → ℕ → ℕ → ℕ → List (Test Weighted)
+weighedTests over-A over-A′ over-b n =
+    (over-A at-each n unless λ j w. sameZ (sum-of w (A j)) (times-v w (w .now) j)) ++
+    ((over-A′ at-each n unless λ j w. sameZ (sum-of w (A′ j)) (times-v w (w .next) j)) ++
+    ((over-b at (λ w. 0) unless λ w. leZ (sum-of w b) (w .limit)) ∷ []))
 
-abbrev pub H-sum : Proposal Lasso → (Row → ℤ) → ℤ
-H-sum p f = sum (p .values .H) f (p .loop .rows)
+-- ---- lasso: TB = 0; TB′ = -k s; Td <= k s0; HA = h0 s; HA′ = -k2 s; Hb <= (k2 - h0) s0; then the ranking over the longer loop
 
--- a factor times entry j of s
-abbrev pub times-s : ℕ → ℕ → Proposal Lasso → ℤ
-times-s k j p = pos k *ℤ getD (p .values .s) j (pos 0)
+-- start and kept
+abbrev pub started : Proposal Lasso → Weighted
+started p = starting (p .values)
+
+abbrev pub kept : Proposal Lasso → Weighted
+kept p = keeping (p .loop) (p .values)
 
 -- the ranking within a lasso
 abbrev pub ranked : Proposal Lasso → Proposal Ranking
@@ -80,19 +85,15 @@ of f ((number at place unless holds) ∷ tests) = (number at (λ i. place (f i))
 
 -- for n variables
 unfoldable pub lassoTests : ℕ → List (Test (Proposal Lasso))
-lassoTests n =
-    (41 at-each n unless λ j p. sameZ (T-sum p (A j)) (pos 0)) ++
-    ((42 at-each n unless λ j p. sameZ (T-sum p (A′ j)) (negℤ (times-s (p .values .k) j p))) ++
-    ((43 at (λ p. 0) unless λ p. leZ (T-sum p b) (pos (p .values .k) *ℤ p .values .s0)) ∷
-    ((44 at-each n unless λ j p. sameZ (H-sum p (A j) -ℤ times-s (p .values .h0) j p) (pos 0)) ++
-    ((45 at-each n unless λ j p. sameZ (H-sum p (A′ j)) (negℤ (times-s (p .values .k2) j p))) ++
-    ((46 at (λ p. 0) unless λ p. leZ (H-sum p b +ℤ pos (p .values .h0) *ℤ p .values .s0) (pos (p .values .k2) *ℤ p .values .s0)) ∷
-    of ranked (rankingTests n))))))
+lassoTests n = of started (weighedTests 41 42 43 n) ++ (of kept (weighedTests 44 45 46 n) ++ of ranked (rankingTests n))
 
 -- ---- what the tests tell of a loop and a certificate's values
 
 unfoldable pub rankingTold : Loop → Ranking → Told
 rankingTold loop c = first (rankingTests (loop .variables)) (record { loop = loop; values = c })
+
+unfoldable pub weighedTold : ℕ → ℕ → ℕ → ℕ → Weighted → Told
+weighedTold over-A over-A′ over-b n w = first (weighedTests over-A over-A′ over-b n) w
 
 unfoldable pub exclusionTold : Loop → Exclusion → Told
 exclusionTold loop c = first (exclusionTests (length (loop .rows))) (record { loop = loop; values = c })

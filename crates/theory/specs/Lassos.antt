@@ -8,6 +8,7 @@ use lib.Signed.{_≤ℤ_}
 use Rattle.whole.specs.Sums.{dot, sum, scale, Each, NonNeg}
 use Rattle.theory.specs.Loops.{Row, A, A′, b, Loop, over, withRow, Step, Run, Endless}
 use Rattle.theory.specs.Rankings.{Ranking, NonNegative, RankingHolds, bound, Bounds}
+use Rattle.theory.specs.WeightedRows.{Weighted}
 
 -- stem rows (B, B′, d); the invariant s·x + s0 >= 0; T, one per stem row, and its scale k; H, one per loop row, h0 and their scale
 -- k2; the ranking
@@ -48,6 +49,23 @@ pub record LassoHolds (loop : Loop) (c : Lasso) : Type 0 where
   pub kept-next : (j : ℕ) → j < loop .variables → sum (c .H) (A′ j) (loop .rows) ≡ negℤ (pos (c .k2) *ℤ getD (c .s) j (pos 0))
   pub kept-right : (sum (c .H) b (loop .rows) +ℤ pos (c .h0) *ℤ c .s0) ≤ℤ (pos (c .k2) *ℤ c .s0)
   pub ranked : RankingHolds (longer loop c) (c .ranking)
+
+-- start and kept as weighted rows: the stem's, to 0 over B, -k s over B′ and at most k s0; the loop's, to h0 s over A, -k2 s over A′ and
+-- at most (k2 - h0) s0
+abbrev pub starting : Lasso → Weighted
+starting c =
+    record { rows = c .stem; weights = c .T; v = c .s; now = pos 0; next = negℤ (pos (c .k)); limit = pos (c .k) *ℤ c .s0 }
+
+abbrev pub keeping : Loop → Lasso → Weighted
+keeping loop c =
+    record {
+      rows = loop .rows;
+      weights = c .H;
+      v = c .s;
+      now = pos (c .h0);
+      next = negℤ (pos (c .k2));
+      limit = (pos (c .k2) -ℤ pos (c .h0)) *ℤ c .s0;
+    }
 
 -- the invariant at x
 abbrev pub Invariant : Lasso → List ℤ → Type 0

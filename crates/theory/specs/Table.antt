@@ -10,7 +10,7 @@ use Rattle.theory.specs.Loops.{Loop, over}
 use Rattle.theory.specs.Rankings.{Ranking, rank, start, fall, bound}
 use Rattle.theory.specs.Lassos.{longer}
 use Rattle.theory.specs.Conditions.{rankingTold, exclusionTold, lassoTold, rankingTests, exclusionTests, lassoTests}
-use Rattle.theory.specs.Conditions.{_at-each_unless_, of}
+use Rattle.theory.specs.Conditions.{weighedTests, _at-each_unless_, of}
 use Rattle.theory.specs.Samples.{row, ranking, excluding, lasso, P, S1, S7-loop, S7, S9-loop, S10-loop, S10-stem, S10-ranking}
 use Rattle.theory.specs.Samples.{S10, S14-loop, S14, unlike-loop, unlike-ranking, excluded-loop, unlike-exclusion, lasso-loop}
 use Rattle.theory.specs.Samples.{unlike-lasso}
@@ -109,7 +109,7 @@ computed =
 -- opens all that the tables compute with
 unfoldable pub computing : Unit {0}
 unfolding
-    told computed rankingTold exclusionTold lassoTold rankingTests exclusionTests lassoTests _at-each_unless_ of first tabulate
+    told computed rankingTold exclusionTold lassoTold rankingTests exclusionTests weighedTests lassoTests _at-each_unless_ of first tabulate
     sum dot scale add less rank start fall bound P S1 S7-loop S7 S9-loop S10-loop S10 S14-loop S14 unlike-loop unlike-ranking
     excluded-loop unlike-exclusion lasso-loop unlike-lasso
 computing = tt
