@@ -1,8 +1,10 @@
-// What the conditions of every kind share (01, "Conditions"): what a test's answer says, the loop that bytes hold, the totals as
-// sums of the theory, and a product.
+// What the conditions of every kind share (01, "Conditions"): the loop that bytes hold, the totals as sums of the theory, a product, and
+// where a condition fails first.
 ghost use mathlib.Core.Path.{_≡_};
-ghost use Prim.Native.Nat.{_≤_, _<_};
+ghost use mathlib.Core.Bool.{Bool};
+ghost use Prim.Native.Nat.{ℕ, _+_, _≤_, _<_};
 ghost use lib.IntN.{pos, natAbs, _*ℤ_};
+ghost use Rattle.refusal.specs.Places.{before-failing};
 
 // A count or multiplier times a right side or an entry.
 pub fn times(k: usize, z: i64) -> i64
@@ -10,4 +12,19 @@ pub fn times(k: usize, z: i64) -> i64
     ensures { λ r. ⌜ (r ≡ pos k *ℤ z) × (natAbs r ≤ 140735340871680) ⌝ }
 {
     (k as i64) * z
+}
+
+// One place more for a condition that is asked at each, while a loop goes on to look for an earlier one: how many places come before
+// the first that fails, out of how many came before it among the first i, and whether place i holds.
+pub fn remember(late: usize, i: usize, holds: bool) -> usize
+    requires { ⌜ i < 65536 ⌝ }
+    ensures { λ r. ⌜ ((test : ℕ → Bool) → late ≡ before-failing i test → holds ≡ test i → r ≡ before-failing (i + 1) test) ⌝ }
+{
+    if !holds {
+        return late;
+    }
+    if late != i {
+        return late;
+    }
+    i + 1
 }

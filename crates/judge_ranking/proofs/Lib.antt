@@ -1,2 +1,3 @@
+pub mod ColumnTests
 pub mod RankedLaws
 pub mod RankingTotals

@@ -1,50 +1,28 @@
--- Rankings column by column: how all columns decide the first three conditions, how the rank is put, and what follows with the fourth. The laws speak of any
--- loop and ranking, so they serve a ranking of kind 2 and the one within a lasso.
-use mathlib.Core.Path.{_≡_, refl, sym, ap, _∙_}
-use Prim.Native.Nat.{ℕ, suc, _+_, _<_}
-use mathlib.Core.Bool.{Bool, true, false, false≢true}
+-- What is told of a ranking's totals is told of the loop and the ranking that they are of; and how the rank is put. The laws speak of any loop
+-- and ranking, so they serve a ranking of kind 2 and one over a longer loop.
+use mathlib.Core.Path.{_≡_, sym, ap, ap₂, _∙_}
+use Prim.Native.Nat.{ℕ, suc, _+_, _≤_, _<_}
+use mathlib.Core.Bool.{true, false}
 use mathlib.Core.List.{List, _++_}
+use native.Mathlib.Omega.{arith}
 use native.Mathlib.Numerals.{add-one}
-use lib.IntN.{ℤ, pos, _-ℤ_, +ℤ-invr}
+use lib.IntN.{ℤ, pos, negℤ, _+ℤ_}
 use lib.ListN.{length, getD, set, drop}
 use lib.Seq.{drop-cons, append-snoc, set-at}
-use lib.Signed.{_<ℤ_, _≤ℤ_, clashℤ}
-use mir.Syntax.{w64}
-use mir.Val.{ofZ, toZ}
-use mir.Facts.{toZ-ofZ}
+use lib.Signed.{ltZ}
+use Rattle.refusal.specs.Tests.{Told, done, refused, _then_}
+use Rattle.refusal.specs.Places.{before-failing, told-once}
+use Rattle.refusal.proofs.PlaceLaws.{told-at, told-past, told-same, then-assoc}
+use Rattle.refusal.proofs.FaultLaws.{Named, named-then, named-each}
+use Rattle.whole.specs.Same.{sameZ}
 use Rattle.whole.specs.Sums.{sum, tabulate}
-use Rattle.whole.proofs.SumLaws.{sum-add, sum-less-weights}
 use Rattle.whole.proofs.Tables.{length-tabulate, tabulate-more, tabulate-same}
-use Rattle.theory.specs.Loops.{A, A′, b, Loop}
-use Rattle.theory.specs.Rankings.{Ranking, RankingHolds, rank, start, fall}
-use Rattle.theory.proofs.RankingTheorems.{no-difference}
-use Rattle.judge_ranking.specs.RankedBy.{ColumnAt, Totalled, RanksBy, ColumnsBy, nothing, Shows, RankedBy, RankingBy}
+use Rattle.theory.specs.Conditions.{rankingTold}
+use Rattle.theory.specs.Loops.{b, Loop}
+use Rattle.theory.specs.Rankings.{Ranking, rank, start, fall}
+use Rattle.theory.proofs.InOrder.{ranking-in-order}
+use Rattle.judge_ranking.specs.RankedBy.{nextIn, holds-at, column-told, columns-told, totals-told, Totalled, ranked-of, rank-put, RankedBy}
 use Rattle.judge_ranking.specs.declared.Ranked.{Ranked}
-use Rattle.judge_sums.specs.Running.{CanGrow}
-use Rattle.judge_conditions.proofs.Totals.{grown-fits}
-use Rattle.judge_conditions.proofs.WhetherLaws.{answer-yes, answer-no, answer-by}
-
-module _ (loop : Loop) (c : Ranking) where
-  -- the four conditions are those of every column, and the fourth
-  pub by-columns : ((j : ℕ) → j < loop .variables → ColumnAt loop c j) → sum (c .Z) b (loop .rows) <ℤ pos 0 → RankingHolds loop c
-  by-columns h fourth =
-      record {
-        first = λ j k. h j k .first;
-        second = λ j k. sum-less-weights (c .Y) (c .Z) (A j) (loop .rows) ∙ difference (h j k .second);
-        third = λ j k. sum-add (c .Z) (A j) (A′ j) (loop .rows) ∙ h j k .third;
-        fourth = fourth;
-      }
-    where
-      difference : {x y : ℤ} → x ≡ y → x -ℤ y ≡ pos 0
-      difference {x} {y} e = rw e (+ℤ-invr y)
-
-  pub column-of : RankingHolds loop c → (j : ℕ) → j < loop .variables → ColumnAt loop c j
-  column-of h j k =
-      record {
-        first = h .first j k;
-        second = no-difference _ _ (sym (sum-less-weights (c .Y) (c .Z) (A j) (loop .rows)) ∙ h .second j k);
-        third = sym (sum-add (c .Z) (A j) (A′ j) (loop .rows)) ∙ h .third j k;
-      }
 
 -- ---- the rank, put into the front of a list one entry after another
 
@@ -54,87 +32,84 @@ put-more entry lent j there =
     rw (add-one, drop-cons lent j (pos 0) there, tabulate-more j entry)
     (set-at (tabulate j entry) (getD lent j (pos 0)) (drop (suc j) lent) (entry j) j (length-tabulate j entry) ∙ sym (append-snoc (tabulate j entry) (entry j) (drop (suc j) lent)))
 
+-- ---- condition after condition
+
+module _ (ys : List ℤ) (ylift : ℤ) (zs : List ℤ) (zlift : ℤ) (n : ℕ) where
+  abbrev told : ℕ → Told
+  told number = column-told number ys ylift zs zlift n
+
+  pub walk-ended : (number r : ℕ) → r ≡ before-failing n (holds-at number ys ylift zs zlift n) → r < n → told number ≡ refused number r
+  unfolding column-told
+  walk-ended number r is below = told-at number n _ r is below
+
+  pub walk-passed : (number r : ℕ) → r ≡ before-failing n (holds-at number ys ylift zs zlift n) → n ≤ r → told number ≡ done
+  unfolding column-told
+  walk-passed number r is past = told-past number n _ r is past
+
+  pub first-fails : (r : ℕ) → told 21 ≡ refused 21 r → columns-told ys ylift zs zlift n ≡ refused 21 r
+  unfolding columns-told _then_
+  first-fails r h = rw h
+
+  pub second-fails : (r : ℕ) → told 21 ≡ done → told 22 ≡ refused 22 r → columns-told ys ylift zs zlift n ≡ refused 22 r
+  unfolding columns-told _then_
+  second-fails r g h = rw (g, h)
+
+  pub third-asked : told 21 ≡ done → told 22 ≡ done → columns-told ys ylift zs zlift n ≡ told 23
+  unfolding columns-told _then_
+  third-asked g h = rw (g, h)
+
+  pub columns-named : Named (columns-told ys ylift zs zlift n)
+  unfolding columns-told column-told
+  columns-named =
+      named-then _ _ (named-each 21 n _ (λ e. omega arith)) (named-then _ _ (named-each 22 n _ (λ e. omega arith)) (named-each 23 n _ (λ e. omega arith)))
+
+  -- the first three, then the fourth
+  pub three-fail : (zb : ℤ) (k p : ℕ) → columns-told ys ylift zs zlift n ≡ refused k p → totals-told ys ylift zs zlift n zb ≡ refused k p
+  unfolding totals-told _then_
+  three-fail zb k p h = rw h
+
+  pub fourth-fails : (zb : ℤ) → columns-told ys ylift zs zlift n ≡ done → ltZ zb (pos 0) ≡ false → totals-told ys ylift zs zlift n zb ≡ refused 24 0
+  unfolding totals-told _then_ told-once
+  fourth-fails zb h e = rw (h, e)
+
+  pub all-hold : (zb : ℤ) → columns-told ys ylift zs zlift n ≡ done → ltZ zb (pos 0) ≡ true → totals-told ys ylift zs zlift n zb ≡ done
+  unfolding totals-told _then_ told-once
+  all-hold zb h e = rw (h, e)
+
+-- ---- what is then shown
+
+pub shows-nothing : (told : Told) (k p : ℕ) (r : Ranked) (start fall : ℤ) (entries lent : List ℤ) → told ≡ refused k p
+    → r ≡ record { number = k; place = p; start = pos 0; fall = pos 0 } → (r ≡ ranked-of told start fall) × (lent ≡ rank-put told entries lent)
+unfolding ranked-of rank-put
+shows-nothing told k p r start fall entries lent h e = (e ∙ rw h, rw h)
+
+pub shows-rank : (told : Told) (start fall : ℤ) (n : ℕ) (entry : ℕ → ℤ) (lent after : List ℤ) → told ≡ done → after ≡ tabulate n entry ++ drop n lent
+    → (record { number = 0; place = 0; start = start; fall = fall } ≡ ranked-of told start fall) × (after ≡ rank-put told (tabulate n entry) lent)
+unfolding ranked-of rank-put
+shows-rank told start fall n entry lent after h e = (rw h, e ∙ rw (h, length-tabulate n entry))
+
 -- ---- the totals are those of a loop and a ranking
 
-pub columns-of : (loop : Loop) (c : Ranking) (ys : List ℤ) (ylift : ℤ) (zs : List ℤ) (zlift : ℤ) (holds : Bool) (before after : List ℤ)
-    → Totalled ys ylift zs zlift loop c → RanksBy holds ys ylift zs zlift (loop .variables) before after → ColumnsBy holds loop c before after
-unfolding rank
-columns-of loop c ys ylift zs zlift holds before after same by =
-    record {
-      decided =
-          answer-by (λ h j below. let t = same j below in rw (t .0, t .1, t .2, t .3) at (h j below))
-          (λ h j below. let t = same j below in rw (t .0, t .1, t .2, t .3) (h j below)) (by .decided);
-      put = λ t. by .put t ∙ ap (λ entries. entries ++ drop (loop .variables) before) (tabulate-same (loop .variables) _ _ (λ j below. same j below .3));
-      stays = by .stays;
-    }
+module _ (loop : Loop) (c : Ranking) (ys : List ℤ) (ylift : ℤ) (zs : List ℤ) (zlift : ℤ) (same : Totalled ys ylift zs zlift loop c) where
+  pub told-of : totals-told ys ylift zs zlift (loop .variables) (sum (c .Z) b (loop .rows)) ≡ rankingTold loop c
+  unfolding totals-told columns-told column-told holds-at
+  told-of =
+      rw (
+        told-same 21 (loop .variables) _ _ (λ j below. ap (λ z. sameZ z (pos 0)) (same j below .1)),
+        told-same 22 (loop .variables) _ _ (λ j below. ap₂ sameZ (same j below .0) (same j below .2)),
+        told-same 23 (loop .variables) _ _ (λ j below. ap₂ (λ (x y : ℤ). sameZ (x +ℤ y) (pos 0)) (same j below .2) (same j below .3)),
+        then-assoc,
+        then-assoc,
+      ) (sym (ranking-in-order loop c))
 
--- ---- the fourth condition
+  rank-of : tabulate (loop .variables) (nextIn zs zlift (loop .variables)) ≡ rank loop c
+  unfolding rank
+  rank-of = tabulate-same (loop .variables) _ _ (λ j below. same j below .3)
 
-pub shows-nothing : (yb zb : ℤ) (r : Ranked) → r ≡ nothing → pos 0 ≤ℤ zb → Shows yb zb r
-shows-nothing yb zb r e h =
-    rw e
-    (record {
-      fourth = answer-no (λ below. clashℤ below h);
-      start-is = λ t. absurd (false≢true t);
-      fall-is = λ t. absurd (false≢true t);
-      otherwise = λ t. refl;
-    })
-
--- what is shown of two totals, as they are passed on, is shown of the sums that they are
-pub shown-of : (y-total z-total yb zb : ℤ) (r : Ranked) → CanGrow y-total → CanGrow z-total → y-total ≡ yb → z-total ≡ zb
-    → Shows (toZ w64 (ofZ w64 y-total)) (toZ w64 (ofZ w64 z-total)) r → Shows yb zb r
-shown-of y-total z-total yb zb r y-grows z-grows y-is z-is h = rw (toZ-ofZ (grown-fits y-grows), toZ-ofZ (grown-fits z-grows), y-is, z-is) at h
-
--- ---- conditions that fail, and others that say the same
-
-pub fails-so : {P : Type 0} (r : Ranked) (loop : Loop) (c : Ranking) (before after : List ℤ) → (P → ⊥) → r ≡ nothing → after ≡ before → RankedBy r P loop c before after
-fails-so r loop c before after fails e same =
-    rw e
-    (record {
-      decided = answer-no fails;
-      start-is = λ t. absurd (false≢true t);
-      fall-is = λ t. absurd (false≢true t);
-      otherwise = λ t. refl;
-      put = λ t. absurd (false≢true t);
-      stays = λ t. same;
-    })
-
-pub ranked-by : {P Q : Type 0} {r : Ranked} {loop : Loop} {c : Ranking} {before after : List ℤ} → (P → Q) → (Q → P) → RankedBy r P loop c before after → RankedBy r Q loop c before after
-ranked-by f g by =
-    record {
-      decided = answer-by f g (by .decided);
-      start-is = by .start-is;
-      fall-is = by .fall-is;
-      otherwise = by .otherwise;
-      put = by .put;
-      stays = by .stays;
-    }
-
--- ---- the first three conditions and the fourth
-
-module _ (loop : Loop) (c : Ranking) (before : List ℤ) (told : Ranked) (shows : Shows (sum (c .Y) b (loop .rows)) (sum (c .Z) b (loop .rows)) told) where
-  pub fourth-fails : told .holds ≡ false → RankingBy told loop c before before
-  fourth-fails e =
-      record {
-        decided = rw e (answer-no (λ h. shows .fourth .no-fails e (h .fourth)));
-        start-is = λ t. absurd (false≢true (sym e ∙ t));
-        fall-is = λ t. absurd (false≢true (sym e ∙ t));
-        otherwise = shows .otherwise;
-        put = λ t. absurd (false≢true (sym e ∙ t));
-        stays = λ t. refl;
-      }
-
-  pub three-fail : (r : Ranked) (after : List ℤ) (holds : Bool) → ColumnsBy holds loop c before after → holds ≡ false → r ≡ nothing → RankingBy r loop c before after
-  three-fail r after holds by fails e = fails-so r loop c before after (λ h. by .decided .no-fails fails (column-of loop c h)) e (by .stays fails)
-
-  pub all-hold : (after : List ℤ) (holds : Bool) → ColumnsBy holds loop c before after → holds ≡ true → told .holds ≡ true → RankingBy told loop c before after
+  pub ranked-by : (yb zb : ℤ) (r : Ranked) (before after : List ℤ) → yb ≡ sum (c .Y) b (loop .rows) → zb ≡ sum (c .Z) b (loop .rows)
+      → r ≡ ranked-of (totals-told ys ylift zs zlift (loop .variables) zb) (negℤ yb) (negℤ zb)
+      → after ≡ rank-put (totals-told ys ylift zs zlift (loop .variables) zb) (tabulate (loop .variables) (nextIn zs zlift (loop .variables))) before
+      → RankedBy r (rankingTold loop c) loop c before after
   unfolding start fall
-  all-hold after holds by three e =
-      record {
-        decided = rw e (answer-yes (by-columns loop c (by .decided .yes-holds three) (shows .fourth .yes-holds e)));
-        start-is = shows .start-is;
-        fall-is = shows .fall-is;
-        otherwise = shows .otherwise;
-        put = λ t. by .put three;
-        stays = λ t. absurd (false≢true (sym t ∙ e));
-      }
+  ranked-by yb zb r before after y-is z-is shown put =
+      record { shown = rw (y-is, z-is, told-of) at shown; put = rw (z-is, told-of, rank-of) at put }

@@ -1,28 +1,16 @@
 -- The lifted totals of a ranking's columns, less the lifts, are the sums of the theory.
 use Prim.Native.Nat.{ℕ, _+_, _*_, _≤_}
-use mathlib.Core.Bool.{Bool}
 use mathlib.Core.List.{List}
 use native.Mathlib.Omega.{arith}
 use lib.IntN.{ℤ, pos}
 use lib.ListN.{replicate, getD-replicate}
-use mir.Syntax.{w64}
-use mir.Val.{ofZ, toZ}
-use mir.Facts.{toZ-ofZ}
 use Rattle.judge_sums.specs.Places.{liftTerm, SumsOf, AllNone, mostEntry}
-use Rattle.judge_sums.specs.Running.{CanGrow, SumOf}
+use Rattle.judge_sums.specs.Running.{SumOf}
 use Rattle.judge_sums.proofs.LiftLaws.{column-in}
 use Rattle.judge_conditions.specs.LoopHeld.{loop-held}
-use Rattle.judge_conditions.specs.Whether.{Whether}
-use Rattle.judge_conditions.proofs.Totals.{grown-fits, now-is, next-is}
-use Rattle.judge_ranking.specs.RankedBy.{ColumnHolds, Totalled}
+use Rattle.judge_conditions.proofs.Totals.{now-is, next-is}
+use Rattle.judge_ranking.specs.RankedBy.{Totalled}
 use Rattle.judge_ranking.specs.RankingHeld.{ranking-held}
-
--- a column whose totals, as they are passed on, are tested
-pub column-decided : (answer : Bool) (ya ya2 za za2 : ℤ) → CanGrow ya → CanGrow ya2 → CanGrow za → CanGrow za2
-    → Whether answer (ColumnHolds (toZ w64 (ofZ w64 ya)) (toZ w64 (ofZ w64 ya2)) (toZ w64 (ofZ w64 za)) (toZ w64 (ofZ w64 za2)))
-    → Whether answer (ColumnHolds ya ya2 za za2)
-column-decided answer ya ya2 za za2 ya-grows ya2-grows za-grows za2-grows d =
-    rw (toZ-ofZ (grown-fits ya-grows), toZ-ofZ (grown-fits ya2-grows), toZ-ofZ (grown-fits za-grows), toZ-ofZ (grown-fits za2-grows)) at d
 
 -- the lifted totals of a ranking record's rows, less the lifts
 pub totalled : (rows certificate : List ℕ) (start n m place : ℕ) (ys : List ℤ) (ylift : ℤ) (zs : List ℤ) (zlift : ℤ) → m ≤ 65

@@ -134,7 +134,7 @@ pub fn fails(number: usize, place: usize) -> Ranked
 }
 
 // The four conditions, out of the lifted totals under Y and Z and the totals over b. Where all hold the rank is put.
-pub fn ranked(
+pub fn by_totals(
     ys: &[i64],
     zs: &[i64],
     n: usize,
@@ -190,7 +190,7 @@ pub fn ranking(
     let mut ys = [0i64; 32];
     let mut zs = [0i64; 32];
     judge_sums::add_rows(&mut ys, &mut zs, rows, start, n, certificate, 6, z, m);
-    ranked(
+    by_totals(
         &ys, &zs, n, ylift.sum, zlift.sum, yb.sum, zb.sum, rank,
     )
 }

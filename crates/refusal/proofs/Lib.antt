@@ -1,2 +1,3 @@
 pub mod TestLaws
 pub mod PlaceLaws
+pub mod FaultLaws

@@ -6,7 +6,7 @@ use mathlib.Core.List.{List, [], _∷_, _++_}
 use native.Mathlib.Omega.{arith}
 use lib.Dec.{eqb}
 use borrow.Author.Tests.{eqb-true, eqb-false, eq-eqb, ne-eqb}
-use Rattle.refusal.specs.Tests.{done, refused, Test, _at_unless_, first, _then_}
+use Rattle.refusal.specs.Tests.{Told, done, refused, Test, _at_unless_, first, _then_}
 use Rattle.refusal.specs.Places.{Throughout, before-failing, told-each, told-once}
 use Rattle.refusal.proofs.TestLaws.{either, passed, failed}
 
@@ -106,6 +106,13 @@ before-grows n holds all here = before-all (n + 1) holds (λ j below. so-far j b
 pub before-ends : (n : ℕ) (holds : ℕ → Bool) → before-failing n holds ≡ n → holds n ≡ false → before-failing (n + 1) holds ≡ n
 before-ends n holds all here = before-first (n + 1) holds n (omega arith) here (rw all at (holds-before n holds))
 
+-- where the place fails, or one before it did
+pub before-fails : (n : ℕ) (holds : ℕ → Bool) → holds n ≡ false → before-failing (n + 1) holds ≡ before-failing n holds
+before-fails n holds here = all-or-first n holds (λ all. before-ends n holds all here ∙ sym all) (before-stays n holds)
+
+pub before-failed : (n : ℕ) (holds : ℕ → Bool) → (before-failing n holds ≡ n → ⊥) → before-failing (n + 1) holds ≡ before-failing n holds
+before-failed n holds some = all-or-first n holds (λ all. absurd (some all)) (before-stays n holds)
+
 -- ---- what is told of the places
 
 pub told-none : (number n : ℕ) (holds : ℕ → Bool) → before-failing n holds ≡ n → told-each number n holds ≡ done
@@ -116,11 +123,23 @@ pub told-there : (number n : ℕ) (holds : ℕ → Bool) → before-failing n ho
 unfolding told-each
 told-there number n holds h = rw (ne-eqb (before-failing n holds) n (λ e. omega arith))
 
+-- by a walk that ended at r
+pub told-at : (number n : ℕ) (holds : ℕ → Bool) (r : ℕ) → r ≡ before-failing n holds → r < n → told-each number n holds ≡ refused number r
+told-at number n holds r is below = told-there number n holds (rw (← is) below) ∙ ap (λ p. refused number p) (sym is)
+
+pub told-past : (number n : ℕ) (holds : ℕ → Bool) (r : ℕ) → r ≡ before-failing n holds → n ≤ r → told-each number n holds ≡ done
+told-past number n holds r is past = told-none number n holds (omega (arith, is, before-within n holds))
+
 pub told-same : (number n : ℕ) (f g : ℕ → Bool) → Throughout n (λ j. f j ≡ g j) → told-each number n f ≡ told-each number n g
 unfolding told-each
 told-same number n f g h = rw (before-same n f g h)
 
 -- ---- an order in two parts
+
+pub then-assoc : (s t u : Told) → ((s then t) then u) ≡ (s then t then u)
+unfolding _then_
+then-assoc done t u = refl
+then-assoc (refused k p) t u = refl
 
 module _ {I : Type 0} where
   pub first-append : (ts us : List (Test I)) (i : I) → first (ts ++ us) i ≡ (first ts i then first us i)

@@ -6,5 +6,6 @@ pub mod LassoTheorems
 pub mod WeightTheorems
 pub mod Orders
 pub mod Decisions
+pub mod InOrder
 pub mod SampleTheorems
 pub mod Pins

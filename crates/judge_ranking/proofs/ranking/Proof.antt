@@ -1,128 +1,151 @@
--- `judge_ranking::ranking` meets its contract: the fourth condition, then the first three. Assumes nothing.
-use Prim.Native.Nat.{_+_, _*_, _≤_}
+-- `judge_ranking::ranking` meets its contract: the lifted totals, less the lifts, are the sums of the theory. Assumes nothing.
+use Prim.Native.Nat.{_+_, _*_, _≤_, _<_}
 use native.Mathlib.Omega.{arith}
-use lib.IntN.{ℤ}
-use borrow.Author.Needs.{needs}
-use borrow.Author.Tests.{not-true, not-false}
-use Rattle.whole.specs.Sums.{sum}
-use Rattle.theory.specs.Loops.{b, Loop}
-use Rattle.theory.specs.Rankings.{Ranking}
-use Rattle.judge_ranking.specs.RankedBy.{Shows}
+use mir.Syntax.{w64}
+use mir.Facts.{toZ-ofZ}
+use Rattle.judge_sums.specs.Running.{Modest, CanGrow}
+use Rattle.judge_sums.proofs.LiftLaws.{sums-modest, passed-grows}
 use Rattle.judge_conditions.specs.LoopHeld.{loop-held}
+use Rattle.judge_conditions.proofs.Totals.{modest-fits, passed-modest, lift-modest, can-grow, grown-fits, right-is}
 use Rattle.judge_ranking.specs.RankingHeld.{ranking-held}
-use Rattle.judge_ranking.proofs.RankedLaws.{shown-of, fourth-fails, three-fail, all-hold}
-use Rattle.judge_sums.specs.Running.{CanGrow}
-use Rattle.judge_sums.proofs.LiftLaws.{passed-grows}
-use Rattle.judge_conditions.proofs.Totals.{can-grow, right-is}
+use Rattle.judge_ranking.proofs.RankedLaws.{ranked-by}
+use Rattle.judge_ranking.proofs.RankingTotals.{totalled, zeros}
+use borrow.Author.Needs.{needs}
 use Rattle.judge_ranking.proofs.ranking.Statement.{statement}
 use Rattle.judge_ranking.proofs.ranking.Tie as tie
 
-right-of-requires : tie.Need-right-of-requires
-right-of-requires c κs = search needs
+-- ---- the places of this proof, once the rows are added: where the lifts and the right sides were told, and the start of the call
 
-mul-right-of : tie.Need-mul-right-of
-mul-right-of c = search needs
+abbrev lifted : tie.After-add-rows → tie.After-lift-of2
+lifted c = c .before .before .before
 
-add-right-of : tie.Need-add-right-of
-add-right-of c = search needs
+abbrev righted : tie.After-add-rows → tie.After-right-of2
+righted c = lifted c .before .before
 
-right-of-requires-2 : tie.Need-right-of-requires-2
-right-of-requires-2 c κs = search needs
-
--- ---- the two totals of right sides: the start of the call, and that they can grow
-
-module _ (c : tie.After-right-of2) where
+module _ (c : tie.After-add-rows) where
   abbrev s : tie.Start
-  s = c .before .before .before .before
-
-  abbrev y-total : ℤ
-  y-total = c .before .right-of .result .sum
-
-  abbrev z-total : ℤ
-  z-total = c .right-of2 .result .sum
+  s = righted c .before .before .before .before
 
   few : s .args .m ≤ 65
   few = omega (arith, s .pre .2)
 
-  y-grows : CanGrow y-total
-  y-grows = can-grow _ _ _ y-total few (omega arith) (c .before .right-of .ensures)
+  ylift-modest : Modest (lifted c .before .lift-of .result .sum)
+  ylift-modest = lift-modest (s .args .m) _ (lifted c .before .lift-of .result .sum) few (lifted c .before .lift-of .ensures)
 
-  z-grows : CanGrow z-total
-  z-grows = can-grow _ _ _ z-total few (omega arith) (c .right-of2 .ensures)
+  zlift-modest : Modest (lifted c .lift-of2 .result .sum)
+  zlift-modest = lift-modest (s .args .m) _ (lifted c .lift-of2 .result .sum) few (lifted c .lift-of2 .ensures)
 
-shown-requires : tie.Need-shown-requires
-shown-requires c κs =
-    let totals = c .before .before in
-    (passed-grows (y-total totals) (y-grows totals), passed-grows (z-total totals) (z-grows totals))
+  yb-grows : CanGrow (righted c .before .right-of .result .sum)
+  yb-grows = can-grow (s .args .m) 140735340871680 _ (righted c .before .right-of .result .sum) few (omega arith) (righted c .before .right-of .ensures)
 
--- ---- once they are shown: the loop and the ranking, and what is shown of them
+  zb-grows : CanGrow (righted c .right-of2 .result .sum)
+  zb-grows = can-grow (s .args .m) 140735340871680 _ (righted c .right-of2 .result .sum) few (omega arith) (righted c .right-of2 .ensures)
 
-module _ (c : tie.After-shown) where
-  abbrev totals : tie.After-right-of2
-  totals = c .before .before .before
+abbrev added : tie.After-struct-told4 → tie.After-add-rows
+added c = c .before .before .before .before .before .before .before .before .before
 
-  abbrev loop : Loop
-  loop = let a = s totals .args in loop-held (a .rows .now) (a .start) (a .n) (a .m)
+-- ---- the needs
 
-  abbrev ranking : Ranking
-  ranking = let a = s totals .args in ranking-held (a .certificate .now) 6 (a .m)
+mul-z : tie.Need-mul-z
+mul-z c = search needs
 
-  told-of : Shows (sum (ranking .Y) b (loop .rows)) (sum (ranking .Z) b (loop .rows)) (c .shown .result)
-  unfolding loop-held ranking-held
-  told-of =
-      let a = s totals .args in
-      shown-of (y-total totals) (z-total totals) _ _ (c .shown .result) (y-grows totals) (z-grows totals)
-      (right-is (a .certificate .now) 6 (a .rows .now) (a .start) (a .n) (a .m) (y-total totals) (totals .before .right-of .ensures))
-      (right-is (a .certificate .now) (6 + 2 * a .m) (a .rows .now) (a .start) (a .n) (a .m) (z-total totals) (totals .right-of2 .ensures))
-      (c .shown .ensures)
+add-z : tie.Need-add-z
+add-z c = search needs
 
-returns : tie.Need-returns
-returns c =
-    let told = c .before .before in
-    fourth-fails (loop told) (ranking told) (s (totals told) .args .rank .now) (told .shown .result) (told-of told) (not-true (told .shown .result .holds) (c .if1 .taken))
+right-of-requires : tie.Need-right-of-requires
+right-of-requires c κs = search needs
 
-loop-columns-requires : tie.Need-loop-columns-requires
-loop-columns-requires c κs = search needs
+right-of-requires-2 : tie.Need-right-of-requires-2
+right-of-requires-2 c κs = search needs
 
-fails-requires : tie.Need-fails-requires
-fails-requires c κs = search needs
+lift-of-requires : tie.Need-lift-of-requires
+lift-of-requires c κs = search needs
+
+lift-of-requires-2 : tie.Need-lift-of-requires-2
+lift-of-requires-2 c κs = search needs
+
+slice-aggregate-add-rows : tie.Need-slice-aggregate-add-rows
+slice-aggregate-add-rows c = search needs
+
+slice-aggregate-add-rows-2 : tie.Need-slice-aggregate-add-rows-2
+slice-aggregate-add-rows-2 c = search needs
+
+add-rows-requires : tie.Need-add-rows-requires
+add-rows-requires c κs =
+    let start = c .before .before .before .before .before .before .before .before in
+    let a = start .args in
+    let wide : 2 * a .n ≤ 32 = omega (arith, start .pre .1) in
+    (wide, wide, zeros (2 * a .n) wide, zeros (2 * a .n) wide, start .pre .0, omega (arith, start .pre .3), start .pre .3)
+
+slice-aggregate-by-totals : tie.Need-slice-aggregate-by-totals
+slice-aggregate-by-totals c = search needs
+
+slice-aggregate-by-totals-2 : tie.Need-slice-aggregate-by-totals-2
+slice-aggregate-by-totals-2 c = search needs
+
+by-totals-requires : tie.Need-by-totals-requires
+by-totals-requires c κs =
+    let rows = added c in
+    let sums = rows .add-rows in
+    let p = s rows .pre in
+    let a = s rows .args in
+    let few : a .m < 16384 = omega (arith, p .2) in (
+      omega (arith, p .1, sums .kept .0),
+      omega (arith, p .1, sums .kept .1 .0),
+      p .1,
+      sums-modest (a .certificate .now) 6 (a .rows .now) (a .start) (a .n) (a .m) (sums .last .0) (sums .ensures .0) few,
+      sums-modest (a .certificate .now) (6 + 2 * a .m) (a .rows .now) (a .start) (a .n) (a .m) (sums .last .1 .0) (sums .ensures .1) few,
+      passed-modest (lifted rows .before .lift-of .result .sum) (ylift-modest rows),
+      passed-modest (lifted rows .lift-of2 .result .sum) (zlift-modest rows),
+      passed-grows (righted rows .before .right-of .result .sum) (yb-grows rows),
+      passed-grows (righted rows .right-of2 .result .sum) (zb-grows rows),
+      p .4,
+    )
 
 same-length : tie.Need-same-length
 same-length c = search needs
 
-returns-2 : tie.Need-returns-2
-returns-2 c =
-    let columns = c .before .before .before in
-    let called = columns .loop-columns in
-    let told = columns .before .before .before .before in
-    three-fail (loop told) (ranking told) (s (totals told) .args .rank .now) (told .shown .result) (told-of told)
-    (c .fails .result) (called .last .1 .1 .1 .1 .1 .0) (called .result) (called .ensures) (not-true (called .result) (c .before .if2 .taken)) (c .fails .ensures)
-
-same-length-2 : tie.Need-same-length-2
-same-length-2 c = search needs
-
-returns-3 : tie.Need-returns-3
-returns-3 c =
-    let columns = c .before .before in
-    let called = columns .loop-columns in
-    let told = columns .before .before .before .before in
-    all-hold (loop told) (ranking told) (s (totals told) .args .rank .now) (told .shown .result) (told-of told)
-    (called .last .1 .1 .1 .1 .1 .0) (called .result) (called .ensures) (not-false (called .result) (c .if2 .left))
-    (not-false (told .shown .result .holds) (columns .before .before .if1 .left))
+returns : tie.Need-returns
+unfolding loop-held ranking-held
+returns c =
+    let called = c .before .by-totals in
+    let rows = added (c .before .before) in
+    let sums = rows .add-rows in
+    let a = s rows .args in
+    let ylift = lifted rows .before .lift-of in
+    let zlift = lifted rows .lift-of2 in
+    let yb = righted rows .before .right-of in
+    let zb = righted rows .right-of2 in
+    let told =
+        rw (
+          toZ-ofZ {w = w64} {z = ylift .result .sum} (modest-fits (ylift-modest rows)),
+          toZ-ofZ {w = w64} {z = zlift .result .sum} (modest-fits (zlift-modest rows)),
+          toZ-ofZ {w = w64} {z = yb .result .sum} (grown-fits (yb-grows rows)),
+          toZ-ofZ {w = w64} {z = zb .result .sum} (grown-fits (zb-grows rows)),
+        ) at (called .ensures) in
+    ranked-by (loop-held (a .rows .now) (a .start) (a .n) (a .m)) (ranking-held (a .certificate .now) 6 (a .m)) (sums .last .0) (ylift .result .sum) (sums .last .1 .0) (zlift .result .sum)
+    (totalled (a .rows .now) (a .certificate .now) (a .start) (a .n) (a .m) 6 (sums .last .0) (ylift .result .sum) (sums .last .1 .0) (zlift .result .sum) (few rows)
+    (sums .ensures .0) (ylift .ensures) (sums .ensures .1) (zlift .ensures))
+    (yb .result .sum) (zb .result .sum) (called .result) (a .rank .now) (called .last .1 .1 .1 .1 .1 .1 .1 .0)
+    (right-is (a .certificate .now) 6 (a .rows .now) (a .start) (a .n) (a .m) (yb .result .sum) (yb .ensures))
+    (right-is (a .certificate .now) (6 + 2 * a .m) (a .rows .now) (a .start) (a .n) (a .m) (zb .result .sum) (zb .ensures))
+    (told .0) (told .1)
 
 pub ranking-spec : {M : Type 1} → statement M
 ranking-spec =
     tie.close
     (tie.spec
+    mul-z
+    add-z
     right-of-requires
-    mul-right-of
-    add-right-of
     right-of-requires-2
-    shown-requires
-    returns
-    loop-columns-requires
-    fails-requires
+    lift-of-requires
+    lift-of-requires-2
+    slice-aggregate-add-rows
+    slice-aggregate-add-rows-2
+    add-rows-requires
+    slice-aggregate-by-totals
+    slice-aggregate-by-totals-2
+    by-totals-requires
     same-length
-    returns-2
-    same-length-2
-    returns-3)
+    returns)
