@@ -9,7 +9,7 @@ ghost use Rattle.theory.specs.Loops.{b};
 ghost use Rattle.judge_sums.specs.Places.{RowsIn, AllModest};
 ghost use Rattle.judge_sums.specs.Running.{CanGrow, Modest};
 ghost use Rattle.judge_sums.specs.Lists.{multipliersFrom};
-ghost use Rattle.judge_ranking.specs.RankedBy.{ColumnsBy, RankingBy};
+ghost use Rattle.judge_ranking.specs.RankedBy.{RankingBy};
 ghost use Rattle.judge_ranking.specs.RankingHeld.{ranking-held};
 ghost use Rattle.judge_longer.specs.LongerHeld.{RowTaken, longer-held};
 use judge_ranking::Ranked;
@@ -64,9 +64,9 @@ fn longer_right(
     and_times(total, endian::u16_at(certificate, place + 2 * m), right)
 }
 
-// The first three conditions over the loop with the added row -s·x <= right, whatever its right side. Where they hold the
-// rank is put.
-fn longer_columns(
+// The four conditions over the loop with the added row -s·x <= right, whatever its right side, once the totals over the right sides are
+// known. Where all hold the rank is put.
+fn longer_totals(
     rows: &[u8],
     start: usize,
     n: usize,
@@ -74,15 +74,23 @@ fn longer_columns(
     certificate: &[u8],
     place: usize,
     s: usize,
+    yb: i64,
+    zb: i64,
     rank: &mut [i64],
-) -> bool
+) -> Ranked
     requires { ⌜ RowsIn (now rows) start n m × (m ≤ 64) × (n ≤ 16) × (place < 65536) × (s < 65536)
-        × (place + 4 * (m + 1) ≤ length (now certificate)) × (s + 2 * n ≤ length (now certificate)) × (n ≤ length (now rank)) ⌝ }
-    ensures { λ r. ⌜ ((right : ℤ) → ColumnsBy r (longer-held (now (rows .entry)) start n m (now (certificate .entry)) s right)
+        × (place + 4 * (m + 1) ≤ length (now certificate)) × (s + 2 * n ≤ length (now certificate))
+        × CanGrow yb × CanGrow zb × (n ≤ length (now rank)) ⌝ }
+    ensures { λ r. ⌜ ((right : ℤ)
+        → yb ≡ sum (ranking-held (now (certificate .entry)) place (m + 1) .Y) b (longer-held (now (rows .entry)) start n m (now (certificate .entry)) s right .rows)
+        → zb ≡ sum (ranking-held (now (certificate .entry)) place (m + 1) .Z) b (longer-held (now (rows .entry)) start n m (now (certificate .entry)) s right .rows)
+        → RankingBy r (longer-held (now (rows .entry)) start n m (now (certificate .entry)) s right)
         (ranking-held (now (certificate .entry)) place (m + 1))
         (now (rank .entry)) (now (rank .exit))) ⌝ }
 {
     let z = place + 2 * (m + 1);
+    let ylift = judge_sums::lift_of(certificate, place, m);
+    let zlift = judge_sums::lift_of(certificate, z, m);
     let mut ys = [0i64; 32];
     let mut zs = [0i64; 32];
     judge_sums::add_rows(&mut ys, &mut zs, rows, start, n, certificate, place, z, m);
@@ -100,9 +108,7 @@ fn longer_columns(
         certificate,
         s,
     );
-    let ylift = judge_sums::lift_of(certificate, place, m);
-    let zlift = judge_sums::lift_of(certificate, z, m);
-    judge_ranking::rank_columns(&ys, &zs, n, ylift.sum, zlift.sum, rank)
+    judge_ranking::by_totals(&ys, &zs, n, ylift.sum, zlift.sum, yb, zb, rank)
 }
 
 // The four conditions over the loop with the added row -s·x <= right.
@@ -126,12 +132,7 @@ pub fn longer_ranking(
 {
     let yb = longer_right(rows, start, n, m, certificate, place, right);
     let zb = longer_right(rows, start, n, m, certificate, place + 2 * (m + 1), right);
-    let told = judge_ranking::shown(yb.sum, zb.sum);
-    if !told.holds {
-        return told;
-    }
-    if !longer_columns(rows, start, n, m, certificate, place, s, rank) {
-        return judge_ranking::fails();
-    }
-    told
+    longer_totals(
+        rows, start, n, m, certificate, place, s, yb.sum, zb.sum, rank,
+    )
 }

@@ -9,6 +9,7 @@ use lib.ListN.{length, getD, drop}
 use lib.Signed.{ltZ}
 use Rattle.refusal.specs.Tests.{Told, done, refused, _then_}
 use Rattle.refusal.specs.Places.{told-each, told-once}
+use Rattle.theory.specs.Conditions.{rankingTold}
 use Rattle.theory.specs.Loops.{A, A′, Loop}
 use Rattle.theory.specs.Rankings.{Ranking, rank, start, fall}
 use Rattle.whole.specs.Same.{sameZ}
@@ -64,7 +65,11 @@ unfoldable pub rank-put : Told → List ℤ → List ℤ → List ℤ
 rank-put done r lent = r ++ drop (length r) lent
 rank-put (refused k p) r lent = lent
 
--- of a ranking of a loop
+-- of a ranking of a loop, with what is told of it or of the certificate that holds it
 pub record RankedBy (r : Ranked) (told : Told) (loop : Loop) (c : Ranking) (before after : List ℤ) : Type 0 where
   pub shown : r ≡ ranked-of told (start loop c) (fall loop c)
   pub put : after ≡ rank-put told (rank loop c) before
+
+-- of the ranking's own conditions
+abbrev pub RankingBy : Ranked → Loop → Ranking → List ℤ → List ℤ → Type 0
+RankingBy r loop c before after = RankedBy r (rankingTold loop c) loop c before after

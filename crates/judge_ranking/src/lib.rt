@@ -8,12 +8,11 @@ ghost use lib.ListN.{length, getD, drop};
 ghost use mathlib.Core.List.{_++_};
 ghost use Rattle.refusal.specs.Faults.{fault-of};
 ghost use Rattle.refusal.specs.Places.{before-failing};
-ghost use Rattle.theory.specs.Conditions.{rankingTold};
 ghost use Rattle.whole.specs.Sums.{tabulate};
 ghost use Rattle.judge_sums.specs.Places.{RowsIn, MultipliersIn, AllModest};
 ghost use Rattle.judge_sums.specs.Running.{CanGrow, Modest};
 ghost use Rattle.judge_conditions.specs.LoopHeld.{loop-held};
-ghost use Rattle.judge_ranking.specs.RankedBy.{nextIn, holds-at, columns-told, totals-told, ranked-of, rank-put, RankedBy};
+ghost use Rattle.judge_ranking.specs.RankedBy.{nextIn, holds-at, columns-told, totals-told, ranked-of, rank-put, RankingBy};
 ghost use Rattle.judge_ranking.specs.RankingHeld.{ranking-held};
 use refusal::Fault;
 
@@ -178,8 +177,7 @@ pub fn ranking(
 ) -> Ranked
     requires { ⌜ RowsIn (now rows) start n m × (n ≤ 16) × (m ≤ 64) × MultipliersIn (now certificate) (6 + 2 * m) m
         × (n ≤ length (now rank)) ⌝ }
-    ensures { λ r. ⌜ RankedBy r (rankingTold (loop-held (now (rows .entry)) start n m) (ranking-held (now (certificate .entry)) 6 m))
-        (loop-held (now (rows .entry)) start n m) (ranking-held (now (certificate .entry)) 6 m)
+    ensures { λ r. ⌜ RankingBy r (loop-held (now (rows .entry)) start n m) (ranking-held (now (certificate .entry)) 6 m)
         (now (rank .entry)) (now (rank .exit)) ⌝ }
 {
     let z = 6 + 2 * m;

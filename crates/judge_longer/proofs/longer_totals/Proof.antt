@@ -1,4 +1,4 @@
--- `judge_longer::longer_columns` meets its contract: the loop's lifted totals, less the added row's terms and the lifts, are the sums over the longer loop. Assumes nothing.
+-- `judge_longer::longer_totals` meets its contract: the loop's lifted totals, less the added row's terms and the lifts, are the sums over the longer loop. Assumes nothing.
 use Prim.Native.Nat.{_+_, _*_, _≤_, _<_}
 use native.Mathlib.Omega.{arith}
 use mir.Syntax.{w64}
@@ -9,17 +9,17 @@ use Rattle.judge_conditions.specs.LoopHeld.{loop-held}
 use Rattle.judge_ranking.specs.RankingHeld.{ranking-held}
 use Rattle.judge_longer.specs.LongerHeld.{longer-held}
 use Rattle.judge_longer.proofs.AddedLaws.{taken-modest, totalled-longer}
-use Rattle.judge_ranking.proofs.RankedLaws.{columns-of}
+use Rattle.judge_ranking.proofs.RankedLaws.{ranked-by}
 use Rattle.judge_conditions.proofs.Totals.{modest-fits, passed-modest, lift-modest}
 use Rattle.judge_ranking.proofs.RankingTotals.{zeros}
 use borrow.Author.Needs.{needs}
-use Rattle.judge_longer.proofs.longer_columns.Statement.{statement}
-use Rattle.judge_longer.proofs.longer_columns.Tie as tie
+use Rattle.judge_longer.proofs.longer_totals.Statement.{statement}
+use Rattle.judge_longer.proofs.longer_totals.Tie as tie
 
 -- ---- the places of this proof: the start, the rows added, the added row taken under Y and under Z, the lifts
 
 abbrev start : tie.After-add-rows → tie.Start
-start c = c .before .before .before .before .before
+start c = c .before .before .before .before .before .before .before
 
 abbrev added : tie.After-u16-at → tie.After-add-rows
 added c = c .before .before .before .before
@@ -28,17 +28,17 @@ abbrev taken : tie.After-u16-at2 → tie.After-take-row
 taken c = c .before .before .before
 
 module _ (c : tie.After-struct-told2) where
-  abbrev lift : tie.After-lift-of2
-  lift = c .before .before .before .before .before
-
   abbrev under-z : tie.After-take-row2
-  under-z = lift .before .before .before
+  under-z = c .before .before .before .before .before .before
 
   abbrev under-y : tie.After-take-row
   under-y = taken (under-z .before)
 
   abbrev rows : tie.After-add-rows
   rows = added (under-y .before)
+
+  abbrev lift : tie.After-lift-of2
+  lift = rows .before .before .before
 
   abbrev s : tie.Start
   s = start rows
@@ -71,7 +71,7 @@ slice-aggregate-add-rows-2 c = search needs
 
 add-rows-requires : tie.Need-add-rows-requires
 add-rows-requires c κs =
-    let start = c .before .before .before .before in
+    let start = c .before .before .before .before .before .before in
     let a = start .args in
     let wide : 2 * a .n ≤ 32 = omega (arith, start .pre .2) in
     let room = start .pre .5 in
@@ -138,14 +138,14 @@ lift-of-requires c κs = search needs
 lift-of-requires-2 : tie.Need-lift-of-requires-2
 lift-of-requires-2 c κs = search needs
 
-slice-aggregate-rank-columns : tie.Need-slice-aggregate-rank-columns
-slice-aggregate-rank-columns c = search needs
+slice-aggregate-by-totals : tie.Need-slice-aggregate-by-totals
+slice-aggregate-by-totals c = search needs
 
-slice-aggregate-rank-columns-2 : tie.Need-slice-aggregate-rank-columns-2
-slice-aggregate-rank-columns-2 c = search needs
+slice-aggregate-by-totals-2 : tie.Need-slice-aggregate-by-totals-2
+slice-aggregate-by-totals-2 c = search needs
 
-rank-columns-requires : tie.Need-rank-columns-requires
-rank-columns-requires c κs =
+by-totals-requires : tie.Need-by-totals-requires
+by-totals-requires c κs =
     let p = s c .pre in
     let a = s c .args in
     let z = a .place + 2 * (a .m + 1) in
@@ -161,7 +161,9 @@ rank-columns-requires c κs =
           (sums .ensures .1) (z-row .take-row2 .ensures),
       passed-modest (lift c .before .lift-of .result .sum) (y-modest c),
       passed-modest (lift c .lift-of2 .result .sum) (z-modest c),
-      p .7,
+      rw (toZ-ofZ (s c .fits .yb)) (p .7),
+      rw (toZ-ofZ (s c .fits .zb)) (p .8),
+      p .9,
     )
 
 same-length : tie.Need-same-length
@@ -170,7 +172,7 @@ same-length c = search needs
 returns : tie.Need-returns
 unfolding longer-held loop-held
 returns c =
-    let called = c .before .rank-columns in
+    let called = c .before .by-totals in
     let asked = c .before .before in
     let a = s asked .args in
     let sums = rows asked .add-rows in
@@ -180,25 +182,31 @@ returns c =
     let lift-z = lift asked .lift-of2 in
     let ys = y .take-row .last .0 in
     let zs = z-row .take-row2 .last .0 in
-    λ right.
-    columns-of (longer-held (a .rows .now) (a .start) (a .n) (a .m) (a .certificate .now) (a .s) right) (ranking-held (a .certificate .now) (a .place) (a .m + 1))
-    ys (lift-y .result .sum) zs (lift-z .result .sum) (called .result) (a .rank .now) (called .last .1 .1 .1 .1 .1 .0)
+    let told =
+        rw (
+          toZ-ofZ {w = w64} {z = lift-y .result .sum} (modest-fits (y-modest asked)),
+          toZ-ofZ {w = w64} {z = lift-z .result .sum} (modest-fits (z-modest asked)),
+          toZ-ofZ (s asked .fits .yb),
+          toZ-ofZ (s asked .fits .zb),
+        ) at (called .ensures) in
+    λ right y-is z-is.
+    ranked-by (longer-held (a .rows .now) (a .start) (a .n) (a .m) (a .certificate .now) (a .s) right) (ranking-held (a .certificate .now) (a .place) (a .m + 1))
+    ys (lift-y .result .sum) zs (lift-z .result .sum)
     (totalled-longer (a .rows .now) (a .certificate .now) (a .start) (a .n) (a .m) (a .place) (a .s) right (sums .last .0) ys (lift-y .result .sum) (sums .last .1 .0) zs (lift-z .result .sum)
     (y .before .u16-at .result) (z-row .before .u16-at2 .result) (few asked)
     (sums .ensures .0) (y .take-row .ensures) (lift-y .ensures) (sums .ensures .1) (z-row .take-row2 .ensures) (lift-z .ensures)
     (y .before .u16-at .ensures .0) (z-row .before .u16-at2 .ensures .0))
-    (rw (
-      toZ-ofZ {w = w64} {z = lift-y .result .sum} (modest-fits (y-modest asked)),
-      toZ-ofZ {w = w64} {z = lift-z .result .sum} (modest-fits (z-modest asked)),
-    ) at (called .ensures))
+    (a .yb) (a .zb) (called .result) (a .rank .now) (called .last .1 .1 .1 .1 .1 .1 .1 .0) y-is z-is (told .0) (told .1)
 
-pub longer-columns-spec : {M : Type 1} → statement M
-longer-columns-spec =
+pub longer-totals-spec : {M : Type 1} → statement M
+longer-totals-spec =
     tie.close
     (tie.spec
     add-z
     mul-z
     add-z-2
+    lift-of-requires
+    lift-of-requires-2
     slice-aggregate-add-rows
     slice-aggregate-add-rows-2
     add-rows-requires
@@ -212,10 +220,8 @@ longer-columns-spec =
     add-u16-at-2
     u16-at-requires-2
     take-row-requires-2
-    lift-of-requires
-    lift-of-requires-2
-    slice-aggregate-rank-columns
-    slice-aggregate-rank-columns-2
-    rank-columns-requires
+    slice-aggregate-by-totals
+    slice-aggregate-by-totals-2
+    by-totals-requires
     same-length
     returns)
