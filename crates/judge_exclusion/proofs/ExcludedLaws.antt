@@ -1,75 +1,78 @@
--- Exclusions row by row: the left sides that crate `judge_sums` gives are those of the theory, and a loop over the rows decides the conditions of all of them.
-use mathlib.Core.Path.{_≡_}
-use Prim.Native.Nat.{ℕ, _+_, _*_, _<_}
-use mathlib.Core.Bool.{true, false}
-use lib.ListN.{length}
+-- Exclusions row by row: the left sides that crate `judge_sums` gives are those of the theory, and a walk over the rows tells what their
+-- order of tests does.
+use mathlib.Core.Path.{_≡_, sym, ap, ap₂, _∙_}
+use Prim.Native.Nat.{ℕ, _+_, _*_, _≤_, _<_}
+use mathlib.Core.Bool.{Bool, true, false}
 use mathlib.Core.List.{List, []}
 use lib.IntN.{ℤ, pos, _*ℤ_}
-use lib.Signed.{leZ, ltZ, _≤ℤ_, clashℤ}
+use lib.ListN.{length, getD}
+use lib.Signed.{leZ}
 use mir.Syntax.{w64}
 use mir.Val.{ofZ, toZ}
 use mir.Facts.{toZ-ofZ}
+use Rattle.refusal.specs.Tests.{Told, done, refused, _then_}
+use Rattle.refusal.specs.Places.{Throughout, before-failing, told-each}
+use Rattle.refusal.proofs.PlaceLaws.{before-all, before-first, told-same, told-none, told-at, told-past}
 use Rattle.whole.specs.Rows.{Row}
-use Rattle.whole.specs.Sums.{tabulate}
-use Rattle.whole.proofs.Compare.{true-lt, false-lt}
-use Rattle.whole.proofs.EachLaws.{each-at}
-use Rattle.whole.proofs.Tables.{length-tabulate, tabulate-at, each-tabulate}
+use Rattle.whole.proofs.Tables.{length-tabulate, tabulate-at}
 use Rattle.endian.specs.Numbers.{littleAt}
 use Rattle.judge_sums.specs.Lists.{rowFrom, rowsFrom}
 use Rattle.judge_sums.specs.Places.{rightAt, rowPlace, directionOf, stepOf}
 use Rattle.judge_sums.specs.Running.{CanGrow}
 use Rattle.judge_sums.proofs.ListLaws.{direction-dot, step-dot}
-use Rattle.theory.specs.Exclusions.{ExclusionHolds}
-use Rattle.judge_conditions.specs.Whether.{Whether}
-use Rattle.judge_exclusion.specs.ExclusionHeld.{RowExcluded}
+use Rattle.theory.specs.Conditions.{exclusionTold}
+use Rattle.theory.proofs.InOrder.{exclusion-in-order}
 use Rattle.judge_conditions.specs.LoopHeld.{loop-held}
-use Rattle.judge_exclusion.specs.ExclusionHeld.{exclusion-held}
-use Rattle.judge_conditions.proofs.WhetherLaws.{answer-no, answer-by, answer-le}
 use Rattle.judge_conditions.proofs.Totals.{grown-fits}
+use Rattle.judge_exclusion.specs.ExclusionHeld.{stays, meets, exclusion-held}
 
 -- ---- one row
 
-module _ (rows : List ℕ) (row n : ℕ) (certificate : List ℕ) (direction step right : ℤ)
-    (direction-is : direction ≡ directionOf rows row n certificate 8) (step-is : step ≡ stepOf rows row n certificate 8)
-    (right-is : right ≡ pos (littleAt 2 certificate 6) *ℤ rightAt rows (row + 4 * n)) where
-  -- the two conditions are those of the left sides
-  row-conditions : RowExcluded (exclusion-held certificate n) (rowFrom rows n row) → (direction ≤ℤ pos 0) × (step ≤ℤ right)
+module _ (rows : List ℕ) (row n : ℕ) (certificate : List ℕ) where
+  pub stays-so : (direction : ℤ) → direction ≡ directionOf rows row n certificate 8 → CanGrow direction
+      → leZ (toZ w64 (ofZ w64 direction)) (pos 0) ≡ stays (exclusion-held certificate n) (rowFrom rows n row)
   unfolding exclusion-held rowFrom
-  row-conditions h = (rw (direction-is, direction-dot rows row n certificate 8) (h .direction), rw (step-is, step-dot rows row n certificate 8, right-is) (h .step))
+  stays-so direction is grows = rw (toZ-ofZ (grown-fits grows)) (ap (λ z. leZ z (pos 0)) (is ∙ direction-dot rows row n certificate 8))
 
-  conditions-row : direction ≤ℤ pos 0 → step ≤ℤ right → RowExcluded (exclusion-held certificate n) (rowFrom rows n row)
+  pub meets-so : (step right : ℤ) → step ≡ stepOf rows row n certificate 8 → CanGrow step
+      → right ≡ pos (littleAt 2 certificate 6) *ℤ rightAt rows (row + 4 * n) → CanGrow right
+      → leZ (toZ w64 (ofZ w64 step)) (toZ w64 (ofZ w64 right)) ≡ meets (exclusion-held certificate n) (rowFrom rows n row)
   unfolding exclusion-held rowFrom
-  conditions-row h k = record { direction = rw (direction-is, direction-dot rows row n certificate 8) at h; step = rw (step-is, step-dot rows row n certificate 8, right-is) at k }
-
-  -- the direction's test failed
-  pub row-fails : CanGrow direction → ltZ (pos 0) (toZ w64 (ofZ w64 direction)) ≡ true → Whether false (RowExcluded (exclusion-held certificate n) (rowFrom rows n row))
-  row-fails grows t =
-      answer-no (λ h. clashℤ (true-lt (pos 0) direction (rw (toZ-ofZ (grown-fits grows)) at t)) (row-conditions h .0))
-
-  -- it passed: what is left is the step
-  pub row-decided : CanGrow direction → CanGrow step → CanGrow right → ltZ (pos 0) (toZ w64 (ofZ w64 direction)) ≡ false
-      → Whether (leZ (toZ w64 (ofZ w64 step)) (toZ w64 (ofZ w64 right))) (RowExcluded (exclusion-held certificate n) (rowFrom rows n row))
-  row-decided direction-grows step-grows right-grows t =
-      let below = false-lt (pos 0) direction (rw (toZ-ofZ (grown-fits direction-grows)) at t) in
-      rw (toZ-ofZ (grown-fits step-grows), toZ-ofZ (grown-fits right-grows)) (answer-by (conditions-row below) (λ h. row-conditions h .1) (answer-le step right))
+  meets-so step right is grows right-is right-grows =
+      rw (toZ-ofZ (grown-fits grows), toZ-ofZ (grown-fits right-grows)) (ap₂ leZ (is ∙ step-dot rows row n certificate 8) right-is)
 
 -- ---- all rows
 
 module _ (rows certificate : List ℕ) (start n m : ℕ) where
-  abbrev At : ℕ → Type 0
-  At i = RowExcluded (exclusion-held certificate n) (rowFrom rows n (rowPlace start n i))
+  -- the tests of row i
+  abbrev pub stays-at : ℕ → Bool
+  stays-at i = stays (exclusion-held certificate n) (rowFrom rows n (rowPlace start n i))
 
-  pub rows-hold : ((i : ℕ) → i < m → At i) → ExclusionHolds (loop-held rows start n m) (exclusion-held certificate n)
-  unfolding loop-held rowsFrom
-  rows-hold h = record { direction = each-tabulate _ m _ (λ i k. h i k .direction); step = each-tabulate _ m _ (λ i k. h i k .step) }
+  abbrev pub meets-at : ℕ → Bool
+  meets-at i = meets (exclusion-held certificate n) (rowFrom rows n (rowPlace start n i))
 
-  pub row-holds : ExclusionHolds (loop-held rows start n m) (exclusion-held certificate n) → (i : ℕ) → i < m → At i
+  -- the tests of the theory are those
+  in-order : exclusionTold (loop-held rows start n m) (exclusion-held certificate n) ≡ (told-each 31 m stays-at then told-each 32 m meets-at)
   unfolding loop-held rowsFrom
-  row-holds h i below =
-      let row : ℕ → Row = λ i. rowFrom rows n (rowPlace start n i) in
-      let inside : i < length (tabulate m row) = rw length-tabulate below in
-      let none : Row = record { now = []; next = []; right = pos 0 } in
-      record {
-        direction = rw (tabulate-at m row i none below) at (each-at _ (tabulate m row) i none (h .direction) inside);
-        step = rw (tabulate-at m row i none below) at (each-at _ (tabulate m row) i none (h .step) inside);
-      }
+  in-order =
+      exclusion-in-order (loop-held rows start n m) (exclusion-held certificate n)
+      ∙ rw length-tabulate
+      (ap₂ (λ (s t : Told). s then t)
+      (told-same 31 m _ _ (λ i below. rw (tabulate-at m (λ i. rowFrom rows n (rowPlace start n i)) i (record { now = []; next = []; right = pos 0 }) below)))
+      (told-same 32 m _ _ (λ i below. rw (tabulate-at m (λ i. rowFrom rows n (rowPlace start n i)) i (record { now = []; next = []; right = pos 0 }) below))))
+
+  -- a walk that ended at row i by the direction
+  pub direction-told : (i : ℕ) → i < m → stays-at i ≡ false → Throughout i (λ k. stays-at k ≡ true)
+      → exclusionTold (loop-held rows start n m) (exclusion-held certificate n) ≡ refused 31 i
+  unfolding _then_
+  direction-told i below fails before = in-order ∙ rw (told-at 31 m stays-at i (sym (before-first m stays-at i below fails before)) below)
+
+  -- one that went to the end
+  module _ (all : Throughout m (λ k. stays-at k ≡ true)) (late : ℕ) (is : late ≡ before-failing m meets-at) where
+    pub step-told : late < m → exclusionTold (loop-held rows start n m) (exclusion-held certificate n) ≡ refused 32 late
+    unfolding _then_
+    step-told below = in-order ∙ rw (told-none 31 m stays-at (before-all m stays-at all)) (told-at 32 m meets-at late is below)
+
+    pub none-told : m ≤ late → exclusionTold (loop-held rows start n m) (exclusion-held certificate n) ≡ done
+    unfolding _then_
+    none-told past = in-order ∙ rw (told-none 31 m stays-at (before-all m stays-at all)) (told-past 32 m meets-at late is past)

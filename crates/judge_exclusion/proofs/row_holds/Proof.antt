@@ -1,16 +1,16 @@
--- `judge_exclusion::row_excluded` meets its contract. Assumes nothing.
+-- `judge_exclusion::row_holds` meets its contract: the left sides are those of the theory, and the right side is q·b. Assumes nothing.
 use Prim.Native.Nat.{ℕ, _+_, _*_}
 use mathlib.Core.Path.{_≡_, ap₂, _∙_}
 use lib.IntN.{ℤ, pos, _*ℤ_}
 use native.Mathlib.Omega.{arith}
 use mir.Facts.{toZ-ofZ}
+use borrow.Author.Needs.{needs}
 use Rattle.whole.proofs.Size.{fits-abs}
 use Rattle.endian.specs.Numbers.{littleAt}
 use Rattle.judge_sums.specs.Places.{rightAt}
-use Rattle.judge_exclusion.proofs.ExcludedLaws.{row-fails, row-decided}
-use borrow.Author.Needs.{needs}
-use Rattle.judge_exclusion.proofs.row_excluded.Statement.{statement}
-use Rattle.judge_exclusion.proofs.row_excluded.Tie as tie
+use Rattle.judge_exclusion.proofs.ExcludedLaws.{stays-so, meets-so}
+use Rattle.judge_exclusion.proofs.row_holds.Statement.{statement}
+use Rattle.judge_exclusion.proofs.row_holds.Tie as tie
 
 along-requires : tie.Need-along-requires
 along-requires c κs = search needs
@@ -52,24 +52,17 @@ right-is c =
 
 returns : tie.Need-returns
 returns c =
-    let after = c .before .before .before in
+    let after = c .before .before .before .before in
     let along = asked after in
     let a = start along .args in
-    row-fails (a .rows .now) (a .row) (a .n) (a .certificate .now) (along .along .result .direction) (along .along .result .step) (after .times .result)
-    (along .along .ensures .0) (along .along .ensures .2) (right-is after) (along .along .ensures .1) (c .if1 .taken)
+    let sides = along .along in (
+      stays-so (a .rows .now) (a .row) (a .n) (a .certificate .now) (sides .result .direction) (sides .ensures .0) (sides .ensures .1),
+      meets-so (a .rows .now) (a .row) (a .n) (a .certificate .now) (sides .result .step) (after .times .result) (sides .ensures .2) (sides .ensures .3)
+          (right-is after) (omega (arith, after .times .ensures .1)),
+    )
 
-returns-2 : tie.Need-returns-2
-returns-2 c =
-    let tested = c .before .before in
-    let after = tested .before .before .before in
-    let along = asked after in
-    let a = start along .args in
-    row-decided (a .rows .now) (a .row) (a .n) (a .certificate .now) (along .along .result .direction) (along .along .result .step) (after .times .result)
-    (along .along .ensures .0) (along .along .ensures .2) (right-is after) (along .along .ensures .1) (along .along .ensures .3)
-    (omega (arith, after .times .ensures .1)) (tested .if1 .left)
-
-pub row-excluded-spec : {M : Type 1} → statement M
-row-excluded-spec =
+pub row-holds-spec : {M : Type 1} → statement M
+row-holds-spec =
     tie.close
     (tie.spec
     along-requires
@@ -78,5 +71,4 @@ row-excluded-spec =
     add-i32-at
     i32-at-requires
     times-requires
-    returns
-    returns-2)
+    returns)
