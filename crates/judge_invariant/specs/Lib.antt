@@ -1,2 +1,0 @@
--- weighted rows that carry an invariant
-pub mod InvariantCarried

@@ -1,0 +1,2 @@
+-- the weighted rows that bytes hold
+pub mod WeightedHeld
