@@ -1,21 +1,28 @@
--- Lassos: where their parts stand within the bytes, and the conditions as start, kept and ranking.
-use mathlib.Core.Path.{_≡_, sym, _∙_}
+-- Lassos: where their parts stand within the bytes, and what is told of start, kept and ranking in their order.
+use mathlib.Core.Path.{_≡_, _∙_}
 use Prim.Native.Nat.{ℕ, _+_, _*_, _≤_}
 use mathlib.Core.List.{List}
 use native.Mathlib.Nat.{mul-le-mul}
 use native.Mathlib.Omega.{arith}
-use lib.IntN.{ℤ, pos, _-ℤ_, +ℤ-idr, +ℤ-invr, zero-*ℤ}
-use lib.ListN.{getD}
-use Rattle.judge_sums.specs.Places.{RowsIn}
-use Rattle.theory.specs.Lassos.{Lasso, LassoHolds, longer}
+use lib.IntN.{ℤ, pos, negℤ, _-ℤ_, _*ℤ_, +ℤ-idr}
+use Rattle.refusal.specs.Faults.{fault-of}
+use Rattle.refusal.specs.Tests.{done, refused, _then_}
+use Rattle.refusal.specs.declared.Fault.{Fault}
+use Rattle.refusal.proofs.FaultLaws.{Named, named-then, named-each, named-once}
+use Rattle.endian.specs.Numbers.{littleAt}
+use Rattle.judge_sums.specs.Places.{rightAt, RowsIn}
+use Rattle.theory.specs.Conditions.{weighedTold, rankingTold, lassoTold}
+use Rattle.theory.specs.Lassos.{Lasso, longer, starting, keeping}
 use Rattle.theory.specs.Loops.{Loop}
-use Rattle.theory.specs.Rankings.{RankingHolds}
-use Rattle.theory.proofs.RankingTheorems.{no-difference}
-use Rattle.judge_lasso.specs.LassoBy.{Starts, Keeps, LassoBy}
+use Rattle.theory.specs.WeightedRows.{Weighted}
+use Rattle.theory.proofs.InOrder.{weighed-in-order, lasso-in-order}
 use Rattle.judge_ranking.specs.RankedBy.{RankingBy}
-use Rattle.judge_ranking.proofs.RankedLaws.{ranked-by}
-use Rattle.judge_lasso.specs.LassoHeld.{LassoIn, s-place}
 use Rattle.judge_ranking.specs.declared.Ranked.{Ranked}
+use Rattle.judge_ranking.proofs.RankedLaws.{shows-nothing}
+use Rattle.judge_lasso.specs.LassoBy.{LassoBy}
+use Rattle.judge_conditions.specs.LoopHeld.{loop-held}
+use Rattle.judge_weighed.specs.WeightedHeld.{weighted-held}
+use Rattle.judge_lasso.specs.LassoHeld.{LassoIn, s-place, s0-place, k-place, T-place, k2-place, H-place, h0-place, lasso-held}
 
 -- ---- places
 
@@ -28,38 +35,66 @@ module _ (bytes : List ℕ) (n m ms : ℕ) (h : LassoIn bytes n m ms) where
   pub stem-in : RowsIn bytes 8 n ms
   stem-in = record { inside = omega (arith, h .inside); few = omega (arith, h .ms-few); narrow = omega (arith, h .n-few) }
 
--- ---- start and kept as the theory states them
+-- ---- start and kept are weighted rows of the theory
+
+-- the factors and the limit, as they are passed on
+pub carried-as : (number n : ℕ) (rows : List ℕ) (start count : ℕ) (certificate : List ℕ) (place s : ℕ) (r : Fault) {h k most h′ k′ most′ : ℤ} → h ≡ h′ → k ≡ k′ → most ≡ most′
+    → r ≡ fault-of (weighedTold number (number + 1) (number + 2) n (weighted-held rows start n count certificate place s h k most))
+    → r ≡ fault-of (weighedTold number (number + 1) (number + 2) n (weighted-held rows start n count certificate place s h′ k′ most′))
+carried-as number n rows start count certificate place s r h-is k-is most-is e = rw (h-is, k-is, most-is) at e
+
+-- start by its places; (k - 0) s0 is k s0
+pub start-as : (bytes : List ℕ) (n m ms k : ℕ) (r : Fault) → k ≡ littleAt 2 bytes (k-place n ms)
+    → r
+    ≡ fault-of (weighedTold 41 42 43 n (weighted-held bytes 8 n ms bytes (T-place n ms) (s-place n ms) (pos 0) (negℤ (pos k)) ((pos k -ℤ pos 0) *ℤ rightAt bytes (s0-place n ms))))
+    → r ≡ fault-of (weighedTold 41 42 43 n (starting (lasso-held bytes n m ms)))
+unfolding lasso-held weighted-held
+start-as bytes n m ms k r is e =
+    let none : pos k -ℤ pos 0 ≡ pos k = +ℤ-idr (pos k) in
+    e ∙ rw (none, is)
+
+-- kept by its places
+pub kept-as : (rows : List ℕ) (start : ℕ) (bytes : List ℕ) (n m ms h0 k2 : ℕ) (r : Fault) → h0 ≡ littleAt 2 bytes (h0-place n m ms) → k2 ≡ littleAt 2 bytes (k2-place n ms)
+    → r
+    ≡ fault-of (weighedTold 44 45 46 n (weighted-held rows start n m bytes (H-place n ms) (s-place n ms) (pos h0) (negℤ (pos k2)) ((pos k2 -ℤ pos h0) *ℤ rightAt bytes (s0-place n ms))))
+    → r ≡ fault-of (weighedTold 44 45 46 n (keeping (loop-held rows start n m) (lasso-held bytes n m ms)))
+unfolding lasso-held weighted-held loop-held
+kept-as rows start bytes n m ms h0 k2 r h-is k-is e = e ∙ rw (h-is, k-is)
+
+-- what is told of them is told by a number of its own
+weighed-named : (over-A over-A′ over-b n : ℕ) (w : Weighted) → (over-A ≡ 0 → ⊥) → (over-A′ ≡ 0 → ⊥) → (over-b ≡ 0 → ⊥) → Named (weighedTold over-A over-A′ over-b n w)
+weighed-named over-A over-A′ over-b n w now-some next-some right-some =
+    rw (weighed-in-order over-A over-A′ over-b n w)
+    (named-then _ _ (named-each over-A n _ now-some) (named-then _ _ (named-each over-A′ n _ next-some) (named-once over-b _ right-some)))
+
+pub start-named : (n : ℕ) (c : Lasso) → Named (weighedTold 41 42 43 n (starting c))
+start-named n c = weighed-named 41 42 43 n (starting c) (λ e. omega arith) (λ e. omega arith) (λ e. omega arith)
+
+pub kept-named : (n : ℕ) (loop : Loop) (c : Lasso) → Named (weighedTold 44 45 46 n (keeping loop c))
+kept-named n loop c = weighed-named 44 45 46 n (keeping loop c) (λ e. omega arith) (λ e. omega arith) (λ e. omega arith)
+
+-- ---- start, kept, ranking
 
 module _ (loop : Loop) (c : Lasso) where
-  pub by-parts : Starts (loop .variables) c → Keeps loop c → RankingHolds (longer loop c) (c .ranking) → LassoHolds loop c
-  by-parts s k r =
-      record {
-        start-now = λ j h. s .columns-are j h .now-is ∙ zero-*ℤ (getD (c .s) j (pos 0));
-        start-next = λ j h. s .columns-are j h .next-is;
-        start-right = rw (zero-*ℤ (c .s0), +ℤ-idr) at (s .right-is);
-        kept-now = λ j h. difference (k .columns-are j h .now-is);
-        kept-next = λ j h. k .columns-are j h .next-is;
-        kept-right = k .right-is;
-        ranked = r;
-      }
-    where
-      difference : {x y : ℤ} → x ≡ y → x -ℤ y ≡ pos 0
-      difference {x} {y} e = rw e (+ℤ-invr y)
+  pub start-told : (k p : ℕ) → weighedTold 41 42 43 (loop .variables) (starting c) ≡ refused k p → lassoTold loop c ≡ refused k p
+  unfolding _then_
+  start-told k p h = lasso-in-order loop c ∙ rw h
 
-  pub starts-of : LassoHolds loop c → Starts (loop .variables) c
-  starts-of h =
-      record {
-        columns-are = λ j k. record { now-is = h .start-now j k ∙ sym (zero-*ℤ (getD (c .s) j (pos 0))); next-is = h .start-next j k };
-        right-is = rw (zero-*ℤ (c .s0), +ℤ-idr) (h .start-right);
-      }
+  module _ (started : weighedTold 41 42 43 (loop .variables) (starting c) ≡ done) where
+    pub kept-told : (k p : ℕ) → weighedTold 44 45 46 (loop .variables) (keeping loop c) ≡ refused k p → lassoTold loop c ≡ refused k p
+    unfolding _then_
+    kept-told k p h = lasso-in-order loop c ∙ rw (started, h)
 
-  pub keeps-of : LassoHolds loop c → Keeps loop c
-  keeps-of h =
-      record {
-        columns-are = λ j k. record { now-is = no-difference _ _ (h .kept-now j k); next-is = h .kept-next j k };
-        right-is = h .kept-right;
-      }
+    pub ranking-told : weighedTold 44 45 46 (loop .variables) (keeping loop c) ≡ done → lassoTold loop c ≡ rankingTold (longer loop c) (c .ranking)
+    unfolding _then_
+    ranking-told h = lasso-in-order loop c ∙ rw (started, h)
+
+  -- a refusal shows nothing
+  pub lasso-refused : (r : Ranked) (lent : List ℤ) (k p : ℕ) → lassoTold loop c ≡ refused k p
+      → r ≡ record { number = k; place = p; start = pos 0; fall = pos 0 } → LassoBy r loop c lent lent
+  lasso-refused r lent k p told e = let so = shows-nothing (lassoTold loop c) k p r _ _ _ lent told e in record { shown = so .0; put = so .1 }
 
   -- start and kept hold: what is left is the ranking
-  pub lasso-ranked : (r : Ranked) (before after : List ℤ) → Starts (loop .variables) c → Keeps loop c → RankingBy r (longer loop c) (c .ranking) before after → LassoBy r loop c before after
-  lasso-ranked r before after s k ranked = ranked-by (by-parts s k) (λ h. h .ranked) ranked
+  pub lasso-ranked : (r : Ranked) (before after : List ℤ) → lassoTold loop c ≡ rankingTold (longer loop c) (c .ranking)
+      → RankingBy r (longer loop c) (c .ranking) before after → LassoBy r loop c before after
+  lasso-ranked r before after told by = rw told (record { shown = by .shown; put = by .put })

@@ -2,9 +2,8 @@
 use Prim.Native.Nat.{_+_, _*_}
 use mathlib.Core.Path.{_≡_}
 use native.Mathlib.Omega.{arith}
-use Rattle.judge_conditions.specs.LoopHeld.{loop-held}
-use Rattle.judge_lasso.specs.LassoHeld.{lasso-held, s-place, k2-place}
-use Rattle.judge_lasso.proofs.LassoLaws.{s-small}
+use Rattle.judge_lasso.specs.LassoHeld.{s-place, k2-place}
+use Rattle.judge_lasso.proofs.LassoLaws.{s-small, kept-as}
 use borrow.Author.Needs.{needs}
 use Rattle.judge_lasso.proofs.keeps.Statement.{statement}
 use Rattle.judge_lasso.proofs.keeps.Tie as tie
@@ -68,14 +67,17 @@ carried-requires c κs =
       h .n-few,
       c .before .u16-at .ensures .1,
       c .u16-at2 .ensures .1,
+      omega arith,
     )
 
 returns : tie.Need-returns
-unfolding loop-held lasso-held
 returns c =
+    let h0 = c .before .before .u16-at in
+    let k2 = c .before .u16-at2 in
     let a = start (c .before .before) .args in
     let place : s-place (a .n) (a .ms) + 2 * a .n + 6 + 2 * a .ms ≡ k2-place (a .n) (a .ms) = omega arith in
-    rw (c .before .before .u16-at .ensures .0, c .before .u16-at2 .ensures .0, place) at (c .carried .ensures)
+    kept-as (a .rows .now) (a .start) (a .certificate .now) (a .n) (a .m) (a .ms) (h0 .result) (k2 .result) (c .carried .result)
+    (rw place at (h0 .ensures .0)) (rw place at (k2 .ensures .0)) (rw place at (c .carried .ensures))
 
 pub keeps-spec : {M : Type 1} → statement M
 keeps-spec =

@@ -1,7 +1,7 @@
 -- `judge_lasso::starts` meets its contract: the parts stand where `lasso-held` has them. Assumes nothing.
 use native.Mathlib.Omega.{arith}
 use Rattle.judge_lasso.specs.LassoHeld.{lasso-held}
-use Rattle.judge_lasso.proofs.LassoLaws.{s-small, stem-in}
+use Rattle.judge_lasso.proofs.LassoLaws.{s-small, stem-in, start-as}
 use borrow.Author.Needs.{needs}
 use Rattle.judge_lasso.proofs.starts.Statement.{statement}
 use Rattle.judge_lasso.proofs.starts.Tie as tie
@@ -46,11 +46,14 @@ carried-requires c κs =
       h .n-few,
       omega arith,
       c .u16-at .ensures .1,
+      omega arith,
     )
 
 returns : tie.Need-returns
-unfolding lasso-held
-returns c = rw (c .before .u16-at .ensures .0) at (c .carried .ensures)
+returns c =
+    let read = c .before .u16-at in
+    let a = c .before .before .before .args in
+    start-as (a .certificate .now) (a .n) (a .m) (a .ms) (read .result) (c .carried .result) (read .ensures .0) (c .carried .ensures)
 
 pub starts-spec : {M : Type 1} → statement M
 starts-spec =
