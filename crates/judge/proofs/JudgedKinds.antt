@@ -1,39 +1,51 @@
 -- A certificate in judging: what the code's answer about its conditions means for the definition. Kinds that have a rank share one text.
-use mathlib.Core.Path.{_≡_, refl, ap, _∙_}
+use mathlib.Core.Path.{_≡_, refl, sym, ap, _∙_}
 use Prim.Native.Nat.{ℕ, _≤_, _<_}
-use mathlib.Core.Bool.{Bool, true, false}
-use mathlib.Core.List.{List}
-use lib.IntN.{ℤ}
+use mathlib.Core.Bool.{true, cond}
+use mathlib.Core.List.{List, []}
+use lib.IntN.{ℤ, pos}
 use lib.ListN.{length}
-use Rattle.whole.proofs.Tables.{length-tabulate}
+use borrow.Author.Tests.{ne-eqb}
 use Rattle.endian.specs.Numbers.{littleAt}
-use Rattle.record.specs.Layouts.{Kind, exclusion, has-rank}
-use Rattle.refusal.specs.Tests.{done, first}
-use Rattle.refusal.proofs.TestLaws.{either}
-use Rattle.theory.specs.Exclusions.{ExclusionHolds}
+use Rattle.record.specs.Layouts.{Kind, exclusion, has-rank, is-lasso}
+use Rattle.refusal.specs.Faults.{fault-of}
+use Rattle.refusal.specs.Tests.{done, refused, first, number as number-told}
+use Rattle.refusal.specs.declared.Fault.{Fault}
+use Rattle.refusal.proofs.FaultLaws.{fault-refused, fault-done}
+use Rattle.refusal.proofs.TestLaws.{never}
+use Rattle.theory.specs.Conditions.{exclusionTold}
+use Rattle.theory.specs.Lassos as Lassos
 use Rattle.theory.specs.Rankings as Rankings
 use Rattle.judge_conditions.specs.LoopHeld.{loop-held}
-use Rattle.judge_conditions.specs.Whether.{Whether}
 use Rattle.judge_exclusion.specs.ExclusionHeld.{exclusion-held}
+use Rattle.judge_ranking.specs.RankedBy.{ranked-of, rank-put}
 use Rattle.judge_ranking.specs.declared.Ranked.{Ranked}
+use Rattle.verdict.specs.Claims.{ranking-claim, exclusion-claim, lasso-claim}
+use Rattle.verdict.specs.Contents.{loop-in, ranking-in, lasso-in}
 use Rattle.verdict.specs.Judging.{Judging, rank-room, judging, judges, ranks, rank-after, judge-of, certificates-judged}
 use Rattle.verdict.specs.Outcomes.{grade-of}
-use Rattle.verdict.specs.Pairs.{Pair, pair-of, kind-of, variables-of, conditions, rank-of, start-of, fall-of, outcome-of}
+use Rattle.verdict.specs.Pairs.{Pair, pair-of, kind-of, variables-of, claim, conditions, ranked-loop, ranking-of, rank-of, start-of, fall-of, outcome-of}
 use Rattle.verdict.specs.Stages.{agreed, said, shows, refusal-of, verdict-of}
 use Rattle.verdict.specs.declared.Outcome.the-variants.{Exclusion}
-use Rattle.verdict.proofs.Accepted.{room-there, no-room-needed, exclusion-conditions}
-use Rattle.verdict.proofs.StageLaws.{agrees-said}
+use Rattle.verdict.proofs.Accepted.{room-there, no-room-needed}
+use Rattle.verdict.proofs.ConditionLaws.{conditions-named}
+use Rattle.verdict.proofs.StageLaws.{by-told, agrees-said}
 use Rattle.judge.specs.SoundPairs.{first-row, LoopSound, CertificateSound, RankedOf, rank-outcome, verdict-shown}
 use Rattle.judge.proofs.RankKinds.{by-rank}
-use Rattle.judge.proofs.SoundContents.{loop-of, exclusion-of}
+use Rattle.judge.proofs.SoundContents.{exclusion-told, exclusion-of}
 use Rattle.judge.proofs.JudgingWays.{refused-so, at-room, at-conditions}
 
 -- ---- kinds that have a rank
 
--- what they show
-pub outcome-is : (k : Kind) (p : Pair) → has-rank k ≡ true → rank-outcome k (start-of p) (fall-of p) ≡ outcome-of k p
-unfolding rank-outcome outcome-of
-outcome-is k p h = by-rank (λ k. rank-outcome k (start-of p) (fall-of p) ≡ outcome-of k p) k h refl refl
+-- what they show, and their rank
+pub outcome-is : (k : Kind) (p : Pair) → kind-of p ≡ k → has-rank k ≡ true → rank-outcome k (start-of p) (fall-of p) ≡ outcome-of k p
+unfolding rank-outcome outcome-of claim ranking-claim lasso-claim start-of fall-of ranked-loop ranking-of is-lasso
+outcome-is k p is h = by-rank (λ k. kind-of p ≡ k → rank-outcome k (start-of p) (fall-of p) ≡ outcome-of k p) k h (λ e. rw e) (λ e. rw e) is
+
+pub rank-is : (k : Kind) (p : Pair) → kind-of p ≡ k → has-rank k ≡ true → Rankings.rank (ranked-loop p) (ranking-of p) ≡ rank-of p
+unfolding rank-of claim ranking-claim lasso-claim ranked-loop ranking-of is-lasso
+rank-is k p is h =
+    by-rank (λ k. kind-of p ≡ k → Rankings.rank (ranked-loop p) (ranking-of p) ≡ claim k p .rank) k h (λ e. rw e) (λ e. rw e) is ∙ ap (λ k. claim k p .rank) (sym is)
 
 module _ (loopbytes : List ℕ) (n m : ℕ) (l : LoopSound loopbytes n m) (certificate : List ℕ) (lent : List ℤ) where
   abbrev j : Judging
@@ -53,9 +65,13 @@ module _ (loopbytes : List ℕ) (n m : ℕ) (l : LoopSound loopbytes n m) (certi
     agreed-so room holds = agrees-said judging j (l .told, (c .told, (room, (holds, tt))))
 
     -- a condition fails
-    fails-so : first rank-room j ≡ done → (conditions p ≡ done → ⊥) → (refusal-of 2 8 0 ≡ judges j) × (lent ≡ rank-after j lent)
+    fails-so : first rank-room j ≡ done → (number place : ℕ) → conditions p ≡ refused number place → (refusal-of 2 number place ≡ judges j) × (lent ≡ rank-after j lent)
     unfolding judge-of
-    fails-so room fails = refused-so j lent 2 8 0 (at-conditions j (l .told) (c .told) room fails)
+    fails-so room number place fails = refused-so j lent 2 number place (at-conditions j (l .told) (c .told) room number place fails)
+
+    never-0 : (number place : ℕ) → conditions p ≡ refused number place → number ≡ 0 → ⊥
+    unfolding number-told
+    never-0 number place e zero = never (sym e ∙ conditions-named p (ap number-told e ∙ zero))
 
     module _ (ranked : has-rank k ≡ true) where
       -- a rank list that is too short
@@ -71,34 +87,39 @@ module _ (loopbytes : List ℕ) (n m : ℕ) (l : LoopSound loopbytes n m) (certi
         room-told = room-there j (rw kind-told ranked) .1 (rw (← l .n-is) room)
 
         pub ranked-judged : (verdict-shown k r ≡ judges j) × (after ≡ rank-after j lent)
-        unfolding verdict-shown judges rank-after verdict-of ranks judge-of rank-of Rankings.rank start-of fall-of
+        unfolding verdict-shown judges rank-after verdict-of ranks judge-of ranked-of rank-put start-of fall-of
         ranked-judged =
-            either (r .holds)
+            by-told (conditions p)
             (λ e.
-            let done-so = agreed-so room-told (by .decided .yes-holds e) in (
-              rw (e, done-so, kind-told, by .start-is e, by .fall-is e) (ap shows (outcome-is k p ranked)),
-              by .put e ∙ rw (done-so, kind-told, ranked, length-tabulate),
+            let done-so = agreed-so room-told e in
+            let shown : r ≡ record { number = 0; place = 0; start = start-of p; fall = fall-of p } = rw e at (by .shown) in (
+              rw (shown, done-so, kind-told) (ap shows (outcome-is k p kind-told ranked)),
+              rw e at (by .put) ∙ rw (done-so, rank-is k p kind-told ranked),
             ))
-            (λ e. let answers = fails-so room-told (by .decided .no-fails e) in (rw e (answers .0), by .stays e ∙ answers .1))
+            (λ number place e.
+            let answers = fails-so room-told number place e in
+            let shown : r ≡ record { number = number; place = place; start = pos 0; fall = pos 0 } = rw e at (by .shown) in
+            (rw (shown, ne-eqb number 0 (never-0 number place e)) (answers .0), rw e at (by .put) ∙ answers .1))
 
   -- ---- kind 3
 
-  module _ (c : CertificateSound certificates-judged loopbytes certificate exclusion) (holds : Bool)
-      (by : Whether holds (ExclusionHolds (loop-held loopbytes first-row n m) (exclusion-held certificate n))) where
+  module _ (c : CertificateSound certificates-judged loopbytes certificate exclusion) (fault : Fault)
+      (told : fault ≡ fault-of (exclusionTold (loop-held loopbytes first-row n m) (exclusion-held certificate n))) where
     no-room : first rank-room j ≡ done
     unfolding judge-of has-rank
     no-room = no-room-needed j (rw (kind-told exclusion c))
 
-    pub exclusion-refused : holds ≡ false → (refusal-of 2 8 0 ≡ judges j) × (lent ≡ rank-after j lent)
-    exclusion-refused e =
-        fails-so exclusion c no-room
-        (λ h. by .no-fails e (rw (loop-of loopbytes n m l, exclusion-of loopbytes n m l certificates-judged certificate c) at (exclusion-conditions p (kind-told exclusion c) .0 h)))
+    fault-is : fault ≡ fault-of (conditions p)
+    fault-is = told ∙ ap fault-of (exclusion-told loopbytes n m l certificates-judged certificate c)
 
-    pub exclusion-accepted : holds ≡ true → (shows (Exclusion (grade-of (littleAt 2 certificate 6))) ≡ judges j) × (lent ≡ rank-after j lent)
-    unfolding judges rank-after verdict-of ranks judge-of outcome-of has-rank exclusion-held
-    exclusion-accepted e =
-        let told = kind-told exclusion c in
+    pub exclusion-refused : (fault .number ≡ 0 → ⊥) → (refusal-of 2 (fault .number) (fault .place) ≡ judges j) × (lent ≡ rank-after j lent)
+    exclusion-refused some = fails-so exclusion c no-room (fault .number) (fault .place) (fault-refused fault (conditions p) fault-is some)
+
+    pub exclusion-accepted : fault .number ≡ 0 → (shows (Exclusion (grade-of (littleAt 2 certificate 6))) ≡ judges j) × (lent ≡ rank-after j lent)
+    unfolding judges rank-after verdict-of ranks judge-of outcome-of rank-of claim exclusion-claim exclusion-held
+    exclusion-accepted zero =
+        let kind-is = kind-told exclusion c in
         let q-is = exclusion-of loopbytes n m l certificates-judged certificate c in
-        let holds-so = exclusion-conditions p told .1 (rw (loop-of loopbytes n m l, q-is) (by .yes-holds e)) in
-        let done-so = agreed-so exclusion c no-room holds-so in
-        (rw (done-so, told, q-is), rw (done-so, told))
+        let done-so = agreed-so exclusion c no-room (fault-done fault (conditions p) fault-is (conditions-named p) zero) in
+        let no-rank : rank-of p ≡ [] = ap (λ k. claim k p .rank) kind-is in
+        (rw (done-so, kind-is, q-is), rw (done-so, no-rank))

@@ -1,5 +1,5 @@
 -- The ways through judging, one for each return: what is told of the records, and the verdict and the rank list that the definition then has.
-use mathlib.Core.Path.{_≡_, refl, _∙_}
+use mathlib.Core.Path.{_≡_, _∙_}
 use Prim.Native.Nat.{ℕ, _<_}
 use mathlib.Core.Bool.{true}
 use mathlib.Core.List.{List}
@@ -7,10 +7,10 @@ use lib.IntN.{ℤ}
 use borrow.Author.Tests.{lt-leb}
 use Rattle.record.specs.Layouts.{has-rank}
 use Rattle.record.specs.Readers.{sound}
-use Rattle.refusal.specs.Tests.{Told, done, refused, first}
+use Rattle.refusal.specs.Tests.{done, refused, first}
 use Rattle.refusal.proofs.TestLaws.{failed}
 use Rattle.verdict.specs.Judging.{Judging, rank-room, judging, judges, ranks, rank-after}
-use Rattle.verdict.specs.Pairs.{Pair, kind-of, variables-of, folded, conditions}
+use Rattle.verdict.specs.Pairs.{kind-of, variables-of, conditions}
 use Rattle.verdict.specs.Stages.{refusal, said, refusal-of, verdict-of}
 use Rattle.verdict.proofs.StageLaws.{stage-done, stage-refused}
 
@@ -18,16 +18,6 @@ use Rattle.verdict.proofs.StageLaws.{stage-done, stage-refused}
 pub refused-so : (j : Judging) (lent : List ℤ) (about number place : ℕ) → said judging j ≡ refusal about number place → (refusal-of about number place ≡ judges j) × (lent ≡ rank-after j lent)
 unfolding judges rank-after verdict-of ranks
 refused-so j lent about number place h = (rw h, rw h)
-
--- a condition that fails is told as 8
-folded-refused : (t : Told) → (folded t ≡ done → ⊥) → folded t ≡ refused 8 0
-unfolding folded
-folded-refused done h = absurd (h refl)
-folded-refused (refused k p) h = refl
-
-pub told-eight : (p : Pair) → (conditions p ≡ done → ⊥) → conditions p ≡ refused 8 0
-unfolding conditions
-told-eight p h = folded-refused _ h
 
 module _ (j : Judging) where
   pub at-loop : (k p : ℕ) → first sound (j .records .loop-is) ≡ refused k p → said judging j ≡ refusal 1 k p
@@ -48,8 +38,7 @@ module _ (j : Judging) where
           stage-refused _ _ _ j 7 (variables-of (j .records)) (failed 7 _ _ _ j (rw ranked (lt-leb _ _ short)))
 
       -- a condition that fails
-      pub at-conditions : first rank-room j ≡ done → (conditions (j .records) ≡ done → ⊥) → said judging j ≡ refusal 2 8 0
+      pub at-conditions : first rank-room j ≡ done → (k p : ℕ) → conditions (j .records) ≡ refused k p → said judging j ≡ refusal 2 k p
       unfolding judging
-      at-conditions room fails =
-          stage-done _ _ _ j loop-sound ∙ stage-done _ _ _ j certificate-sound ∙ stage-done _ _ _ j room ∙
-          stage-refused _ _ _ j 8 0 (told-eight (j .records) fails)
+      at-conditions room k p fails =
+          stage-done _ _ _ j loop-sound ∙ stage-done _ _ _ j certificate-sound ∙ stage-done _ _ _ j room ∙ stage-refused _ _ _ j k p fails

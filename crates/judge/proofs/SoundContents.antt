@@ -10,14 +10,14 @@ use Rattle.judge_conditions.specs.LoopHeld.{loop-held}
 use Rattle.judge_ranking.specs.RankedBy.{RankingBy}
 use Rattle.judge_ranking.specs.RankingHeld.{ranking-held}
 use Rattle.judge_ranking.specs.declared.Ranked.{Ranked}
-use Rattle.judge_ranking.proofs.RankedLaws.{ranked-by}
 use Rattle.judge_exclusion.specs.ExclusionHeld.{exclusion-held}
 use Rattle.judge_lasso.specs.LassoBy.{LassoBy}
 use Rattle.judge_lasso.specs.LassoHeld.{lasso-held}
+use Rattle.theory.specs.Conditions.{exclusionTold}
 use Rattle.verdict.specs.Contents.{loop-in, ranking-in, exclusion-in, lasso-in}
 use Rattle.verdict.specs.Pairs as Pairs
 use Rattle.verdict.specs.Pairs.{loop-record, certificate-record, Pair, pair-of, kind-of}
-use Rattle.verdict.proofs.Accepted.{ranking-conditions, lasso-conditions}
+use Rattle.verdict.proofs.ConditionLaws.{conditions-ranking, conditions-exclusion, conditions-lasso}
 use Rattle.judge.specs.SoundPairs.{first-row, LoopSound, CertificateSound, RankedOf}
 use Rattle.judge.proofs.HeldByPlaces.{loop-is, ranking-is, exclusion-is, lasso-is}
 use Rattle.judge.proofs.SoundSizes.{loop-kind, counts-are}
@@ -61,13 +61,15 @@ module _ (loopbytes : List ℕ) (n m : ℕ) (l : LoopSound loopbytes n m) where
     unfolding Pairs.ranked-loop Pairs.ranking-of is-lasso
     ranking-told c r before after by =
         let told = kind-told ranking c in
-        let conditions = ranking-conditions p told in
-        rw told (ranked-by (conditions .1) (conditions .0) (rw (loop-of, ranking-of c) by))
+        rw (conditions-ranking p told, told, loop-of, ranking-of c) by
 
     pub lasso-told : (ms : ℕ) → CertificateSound wants loopbytes certificate lasso → ms ≡ counts-read record-of .ms → (r : Ranked) (before after : List ℤ)
         → LassoBy r (loop-held loopbytes first-row n m) (lasso-held certificate n m ms) before after → RankedOf r p before after
     unfolding Pairs.ranked-loop Pairs.ranking-of is-lasso
     lasso-told ms c ms-is r before after by =
         let told = kind-told lasso c in
-        let conditions = lasso-conditions p told in
-        rw told (ranked-by (conditions .1) (conditions .0) (rw (loop-of, lasso-of ms c ms-is) by))
+        rw (conditions-lasso p told, told, loop-of, lasso-of ms c ms-is) by
+
+    pub exclusion-told : (c : CertificateSound wants loopbytes certificate exclusion)
+        → exclusionTold (loop-held loopbytes first-row n m) (exclusion-held certificate n) ≡ Pairs.conditions p
+    exclusion-told c = rw (conditions-exclusion p (kind-told exclusion c), loop-of, exclusion-of c)

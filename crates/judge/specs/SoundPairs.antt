@@ -4,6 +4,7 @@ use Prim.Native.Nat.{ℕ}
 use mathlib.Core.Bool.{Bool, true, cond}
 use mathlib.Core.Path.{_≡_}
 use mathlib.Core.List.{List}
+use lib.Dec.{eqb}
 use lib.IntN.{ℤ}
 use Rattle.record.specs.Layouts.{Kind, loop, ranking, exclusion, lasso, other, kindOf, has-rank}
 use Rattle.record.specs.Readers.{kind, counts-read, sound}
@@ -38,9 +39,10 @@ pub record RankSound (wants : Kind → Bool) (loopbytes bytes : List ℕ) (numbe
   pub ms-is : ms ≡ counts-read (certificate-record wants (loop-record loopbytes) bytes) .ms
   pub ranks : has-rank (kindOf number) ≡ true
 
--- whether its conditions hold; and then start, fall and rank, which are those of kind 2, or within kind 4 over the loop with the added row
+-- what its conditions tell; and where they hold start, fall and rank, which are those of kind 2, or within kind 4 over the loop with the
+-- added row
 abbrev pub RankedOf : Ranked → Pair → List ℤ → List ℤ → Type 0
-RankedOf r p before after = RankedBy r (conditions p ≡ done) (ranked-loop p) (ranking-of p) before after
+RankedOf r p before after = RankedBy r (conditions p) (ranked-loop p) (ranking-of p) before after
 
 -- its outcome
 unfoldable pub rank-outcome : Kind → ℤ → ℤ → Outcome
@@ -52,7 +54,7 @@ rank-outcome other start fall = Nothing
 
 -- and its verdict, from what its conditions tell
 unfoldable pub verdict-shown : Kind → Ranked → Verdict
-verdict-shown k r = cond (r .holds) (shows (rank-outcome k (r .start) (r .fall))) (refusal-of 2 8 0)
+verdict-shown k r = cond (eqb (r .number) 0) (shows (rank-outcome k (r .start) (r .fall))) (refusal-of 2 (r .number) (r .place))
 
 -- a verdict and the rank list afterwards are those of judging
 abbrev pub Judged : List ℕ → List ℕ → List ℤ → Verdict → List ℤ → Type 0

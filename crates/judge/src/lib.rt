@@ -62,8 +62,8 @@ pub fn rank_outcome(kind: usize, start: i64, fall: i64) -> Outcome
 fn ranked_verdict(kind: usize, shown: Ranked) -> Verdict
     ensures { λ r. ⌜ r ≡ verdict-shown (kindOf kind) shown ⌝ }
 {
-    if !shown.holds {
-        return refused(2, 8, 0);
+    if shown.number != 0 {
+        return refused(2, shown.number, shown.place);
     }
     accepted(rank_outcome(kind, shown.start, shown.fall))
 }
@@ -102,8 +102,9 @@ fn judge_excluded(loopbytes: &[u8], n: usize, m: usize, certificate: &[u8]) -> V
     requires { ⌜ LoopSound (now loopbytes) n m × CertificateSound certificates-judged (now loopbytes) (now certificate) exclusion ⌝ }
     ensures { λ r. ⌜ ((lent : List ℤ) → Judged (now (loopbytes .entry)) (now (certificate .entry)) lent r lent) ⌝ }
 {
-    if !judge_exclusion::exclusion(loopbytes, FIRST_ROW, n, m, certificate) {
-        return refused(2, 8, 0);
+    let fault = judge_exclusion::exclusion(loopbytes, FIRST_ROW, n, m, certificate);
+    if fault.number != 0 {
+        return refused(2, fault.number, fault.place);
     }
     let grade = grade(endian::u16_at(certificate, 6));
     accepted(Outcome::Exclusion { grade: grade })

@@ -1,5 +1,5 @@
 -- The entries of a state against their range, one after another; and what the tests tell.
-use mathlib.Core.Path.{_≡_, refl, sym, _∙_}
+use mathlib.Core.Path.{_≡_, refl, _∙_}
 use Prim.Native.Nat.{ℕ, suc, _+_, _<_, _≤_}
 use mathlib.Core.Bool.{true, false}
 use mathlib.Core.List.{List}
@@ -10,7 +10,8 @@ use lib.ListN.{length, drop, getD}
 use lib.Seq.{drop-cons, drop-length}
 use borrow.Author.Tests.{eq-eqb, ne-eqb}
 use Rattle.record.specs.Ranges.{state-entries, within}
-use Rattle.refusal.specs.Tests.{Told, done, refused, number, place, first}
+use Rattle.refusal.specs.Tests.{done, refused, first}
+use Rattle.refusal.proofs.FaultLaws.{Named}
 use Rattle.refusal.proofs.TestLaws.{passed, failed, passes-done, zero-done}
 use Rattle.verdict.specs.StateTests.{Given-state, before-outside, state-tests}
 use Rattle.verdict.proofs.StatesInRange.{before-inside, before-stops}
@@ -55,17 +56,7 @@ module _ (g : Given-state) where
     unfolding state-tests
     in-range h = passes-done state-tests g (eq-eqb _ _ counted, (eq-eqb _ _ h, tt))
 
--- ---- what a fault's number means
-
-told-refused : (t : Told) → (number t ≡ 0 → ⊥) → t ≡ refused (number t) (place t)
-unfolding number place
-told-refused done some = absurd (some refl)
-told-refused (refused k p) some = refl
-
-module _ (g : Given-state) (k p : ℕ) (number-is : k ≡ number (first state-tests g)) (place-is : p ≡ place (first state-tests g)) where
-  pub state-refused : (k ≡ 0 → ⊥) → first state-tests g ≡ refused k p
-  state-refused some = rw (number-is, place-is) (told-refused (first state-tests g) (λ z. some (number-is ∙ z)))
-
-  pub state-done : k ≡ 0 → first state-tests g ≡ done
-  unfolding state-tests
-  state-done zero = zero-done state-tests g refl (sym number-is ∙ zero)
+-- 0 is told only when both are passed
+pub state-named : (g : Given-state) → Named (first state-tests g)
+unfolding state-tests
+state-named g h = zero-done state-tests g refl h

@@ -1,7 +1,6 @@
 -- `judge::judge_excluded` meets its contract: each return is one way through judging. Assumes nothing.
 use mathlib.Core.Path.{_∙_}
 use native.Mathlib.Omega.{arith}
-use borrow.Author.Tests.{not-true, not-false}
 use Rattle.verdict.specs.Judging.{certificates-judged}
 use Rattle.judge.proofs.JudgedKinds.{exclusion-refused, exclusion-accepted}
 use Rattle.judge.proofs.SoundSizes.{n-few, rows-in, exclusion-long}
@@ -20,19 +19,19 @@ refused-requires c κs = search needs
 
 returns : tie.Need-returns
 returns c =
-    let called = c .before .before in
+    let called = c .before .before .before in
     let s = called .before .before .before in
     let a = s .args in
     λ lent.
     let told =
     exclusion-refused (a .loopbytes .now) (a .n) (a .m) (s .pre .0) (a .certificate .now) lent (s .pre .1) (called .exclusion .result) (called .exclusion .ensures)
-    (not-true (called .exclusion .result) (c .before .if1 .taken))
+    (c .before .if1 .taken)
     in
     (c .refused .ensures ∙ told .0, told .1)
 
 u16-at-requires : tie.Need-u16-at-requires
 u16-at-requires c κs =
-    let s = c .before .before .before .before in
+    let s = c .before .before .before .before .before in
     omega (arith, exclusion-long _ _ _ (s .pre .0) certificates-judged _ (s .pre .1))
 
 grade-requires : tie.Need-grade-requires
@@ -46,13 +45,13 @@ returns-2 c =
     let graded = c .before in
     let read = graded .before .u16-at in
     let passed = graded .before .before in
-    let called = passed .before in
+    let called = passed .before .before in
     let s = called .before .before .before in
     let a = s .args in
     λ lent.
     let told =
     exclusion-accepted (a .loopbytes .now) (a .n) (a .m) (s .pre .0) (a .certificate .now) lent (s .pre .1) (called .exclusion .result) (called .exclusion .ensures)
-    (not-false (called .exclusion .result) (passed .if1 .left))
+    (passed .if1 .left)
     in
     (c .accepted .ensures ∙ rw (graded .grade .ensures, read .ensures .0) (told .0), told .1)
 

@@ -1,10 +1,9 @@
 -- `judge::ranked_verdict` meets its contract. Assumes nothing.
-use mathlib.Core.Path.{_≡_, ap, _∙_}
-use mathlib.Core.Bool.{true, false}
+use mathlib.Core.Path.{ap, _∙_}
 use mir.Syntax.{w64}
 use mir.Facts.{toZ-ofZ}
 use borrow.Author.Needs.{needs}
-use borrow.Author.Tests.{not-true, not-false}
+use borrow.Author.Tests.{eq-eqb, ne-eqb}
 use Rattle.verdict.specs.Stages.{shows}
 use Rattle.judge.specs.SoundPairs.{verdict-shown}
 use Rattle.judge.proofs.ranked_verdict.Statement.{statement}
@@ -16,8 +15,8 @@ refused-requires c κs = search needs
 returns : tie.Need-returns
 unfolding verdict-shown
 returns c =
-    let fails : c .before .before .before .args .shown .holds ≡ false = not-true _ (c .before .if1 .taken) in
-    c .refused .ensures ∙ rw fails
+    let shown = c .before .before .before .args .shown in
+    c .refused .ensures ∙ rw (ne-eqb (shown .number) 0 (c .before .if1 .taken))
 
 rank-outcome-requires : tie.Need-rank-outcome-requires
 rank-outcome-requires c κs = search needs
@@ -31,10 +30,9 @@ returns-2 c =
     let told = c .before .before .before in
     let passed = told .before in
     let shown = passed .before .before .args .shown in
-    let holds : shown .holds ≡ true = not-false _ (passed .if1 .left) in
-    let start = toZ-ofZ {w = w64} {z = shown .start} (record { sfits = told .struct-told .given .1 .0 .1 }) in
-    let fall = toZ-ofZ {w = w64} {z = shown .fall} (record { sfits = told .struct-told .given .1 .1 .0 .1 }) in
-    c .accepted .ensures ∙ ap shows (rw (start, fall) at (c .before .rank-outcome .ensures)) ∙ rw holds
+    let start = toZ-ofZ {w = w64} {z = shown .start} (record { sfits = told .struct-told .given .1 .1 .0 .1 }) in
+    let fall = toZ-ofZ {w = w64} {z = shown .fall} (record { sfits = told .struct-told .given .1 .1 .1 .0 .1 }) in
+    c .accepted .ensures ∙ ap shows (rw (start, fall) at (c .before .rank-outcome .ensures)) ∙ rw (eq-eqb (shown .number) 0 (passed .if1 .left))
 
 pub ranked-verdict-spec : {M : Type 1} → statement M
 ranked-verdict-spec =
