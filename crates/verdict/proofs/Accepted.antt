@@ -5,13 +5,12 @@ use mathlib.Core.Logic.{_↔_}
 use Prim.Native.Nat.{ℕ, _≤_}
 use mathlib.Core.Bool.{true, false}
 use mathlib.Core.List.{List, _++_}
-use native.Mathlib.Omega.{arith}
 use lib.IntN.{ℤ}
-use lib.ListN.{drop}
+use lib.ListN.{length, drop}
 use borrow.Author.Tests.{leb-true, le-leb}
-use Rattle.record.specs.Layouts.{ranking, exclusion, lasso, is-lasso, has-rank}
+use Rattle.record.specs.Layouts.{Kind, ranking, exclusion, lasso, has-rank}
 use Rattle.record.specs.Readers.{sound}
-use Rattle.refusal.specs.Tests.{Told, done, refused, number, first}
+use Rattle.refusal.specs.Tests.{done, first}
 use Rattle.refusal.proofs.TestLaws.{passes-done, done-passes, zero-done}
 use Rattle.theory.specs.Exclusions as Exclusions
 use Rattle.theory.specs.Lassos as Lassos
@@ -21,10 +20,12 @@ use Rattle.whole.proofs.Tables.{length-tabulate}
 use Rattle.verdict.specs.Contents.{loop-in, ranking-in, exclusion-in, lasso-in}
 use Rattle.verdict.specs.Judging.{Judging, rank-room, judging, judges, ranks, rank-after}
 use Rattle.verdict.specs.Outcomes.{grade-of}
-use Rattle.verdict.specs.Pairs.{Pair, kind-of, variables-of, folded, conditions-told, conditions, ranked-loop, ranking-of, rank-of, start-of, fall-of, outcome-of}
+use Rattle.verdict.specs.Claims.{ranking-claim, exclusion-claim, lasso-claim}
+use Rattle.verdict.specs.Pairs.{Pair, kind-of, variables-of, claim, conditions, rank-of, outcome-of}
 use Rattle.verdict.specs.declared.Outcome.{Outcome}
 use Rattle.verdict.specs.declared.Outcome.the-variants.{Ranking, Exclusion, Lasso}
 use Rattle.verdict.specs.Stages.{Said, agreed, refusal, said, shows, verdict-of}
+use Rattle.verdict.proofs.ConditionLaws.{conditions-ranking, conditions-exclusion, conditions-lasso, conditions-named}
 use Rattle.verdict.proofs.StageLaws.{Agrees, agrees-said, said-agrees, number-said, Named, zero-agreed}
 
 -- both records of a pair are sound
@@ -32,52 +33,25 @@ pub record Both-sound (p : Pair) : Type 0 where
   pub loop-sound : first sound (p .loop-is) ≡ done
   pub certificate-sound : first sound (p .certificate-is) ≡ done
 
--- ---- conditions, folded
+-- ---- the conditions of each kind, as the theory states them
 
-folded-done : (t : Told) → folded t ≡ done → t ≡ done
-unfolding folded
-folded-done done h = refl
-folded-done (refused k p) h = cc
+pub ranking-conditions : (p : Pair) → kind-of p ≡ ranking
+    → (conditions p ≡ done) ↔ Rankings.RankingHolds (loop-in (p .loop-is)) (ranking-in (p .certificate-is))
+ranking-conditions p e = rw (conditions-ranking p e) (ranking-decided (loop-in (p .loop-is)) (ranking-in (p .certificate-is)))
 
-done-folded : (t : Told) → t ≡ done → folded t ≡ done
-unfolding folded
-done-folded t h = rw h
+pub exclusion-conditions : (p : Pair) → kind-of p ≡ exclusion
+    → (conditions p ≡ done) ↔ Exclusions.ExclusionHolds (loop-in (p .loop-is)) (exclusion-in (p .certificate-is))
+exclusion-conditions p e = rw (conditions-exclusion p e) (exclusion-decided (loop-in (p .loop-is)) (exclusion-in (p .certificate-is)))
 
-pub folded-named : (t : Told) → number (folded t) ≡ 0 → folded t ≡ done
-unfolding folded number
-folded-named done h = refl
-folded-named (refused k p) h = absurd (omega arith)
-
--- a folded condition tells 0 or 8
-pub folded-number : (k : ℕ) (t : Told) → (0 ≡ k → ⊥) → (8 ≡ k → ⊥) → number (folded t) ≡ k → ⊥
-unfolding folded number
-folded-number k done zero eight h = zero h
-folded-number k (refused n p) zero eight h = eight h
-
--- the conditions of each kind, as the theory states them
-pub ranking-conditions : (p : Pair) → kind-of p ≡ ranking → (conditions p ≡ done) ↔ Rankings.RankingHolds (loop-in (p .loop-is)) (ranking-in (p .certificate-is))
-unfolding conditions conditions-told
-ranking-conditions p e =
-    let decided = ranking-decided (loop-in (p .loop-is)) (ranking-in (p .certificate-is)) in
-    (λ h. decided .0 (folded-done _ (rw e at h)), λ h. rw e (done-folded _ (decided .1 h)))
-
-pub exclusion-conditions : (p : Pair) → kind-of p ≡ exclusion → (conditions p ≡ done) ↔ Exclusions.ExclusionHolds (loop-in (p .loop-is)) (exclusion-in (p .certificate-is))
-unfolding conditions conditions-told
-exclusion-conditions p e =
-    let decided = exclusion-decided (loop-in (p .loop-is)) (exclusion-in (p .certificate-is)) in
-    (λ h. decided .0 (folded-done _ (rw e at h)), λ h. rw e (done-folded _ (decided .1 h)))
-
-pub lasso-conditions : (p : Pair) → kind-of p ≡ lasso → (conditions p ≡ done) ↔ Lassos.LassoHolds (loop-in (p .loop-is)) (lasso-in (p .certificate-is))
-unfolding conditions conditions-told
-lasso-conditions p e =
-    let decided = lasso-decided (loop-in (p .loop-is)) (lasso-in (p .certificate-is)) in
-    (λ h. decided .0 (folded-done _ (rw e at h)), λ h. rw e (done-folded _ (decided .1 h)))
+pub lasso-conditions : (p : Pair) → kind-of p ≡ lasso
+    → (conditions p ≡ done) ↔ Lassos.LassoHolds (loop-in (p .loop-is)) (lasso-in (p .certificate-is))
+lasso-conditions p e = rw (conditions-lasso p e) (lasso-decided (loop-in (p .loop-is)) (lasso-in (p .certificate-is)))
 
 -- ---- judging
 
 judging-named : (j : Judging) → Named judging j
-unfolding judging sound rank-room conditions
-judging-named j = (zero-done sound (j .records .loop-is) refl, (zero-done sound (j .records .certificate-is) refl, (zero-done rank-room j refl, (folded-named _, tt))))
+unfolding judging sound rank-room
+judging-named j = (zero-done sound (j .records .loop-is) refl, (zero-done sound (j .records .certificate-is) refl, (zero-done rank-room j refl, (conditions-named (j .records), tt))))
 
 -- 0 is told exactly when every stage is done
 pub accepts-agrees : (j : Judging) → (judges j .number ≡ 0) ↔ Agrees judging j
@@ -155,6 +129,16 @@ accepted-exactly-when-lasso j e =
 accepted-said : (j : Judging) → judges j .number ≡ 0 → said judging j ≡ agreed
 accepted-said j h = agrees-said judging j (accepts-agrees j .0 h)
 
+-- what its claim has: the outcome, and the rank in front of the list
+pub claim-answers : (j : Judging) (lent : List ℤ) (k : Kind) → kind-of (j .records) ≡ k → judges j .number ≡ 0
+    → let c = claim k (j .records) in (judges j ≡ shows (c .outcome)) × (rank-after j lent ≡ c .rank ++ drop (length (c .rank)) lent)
+unfolding judges verdict-of rank-after ranks outcome-of rank-of
+claim-answers j lent k e h =
+    rw (accepted-said j h) (
+      ap (λ k. shows (claim k (j .records) .outcome)) e,
+      ap (λ k. claim k (j .records) .rank ++ drop (length (claim k (j .records) .rank)) lent) e,
+    )
+
 -- the first n of the list are r, the rest stays
 pub record Answers-rank (j : Judging) (lent : List ℤ) (outcome : Outcome) (r : List ℤ) : Type 0 where
   pub verdict-is : judges j ≡ shows outcome
@@ -163,16 +147,20 @@ pub record Answers-rank (j : Judging) (lent : List ℤ) (outcome : Outcome) (r :
 pub ranking-answers : (j : Judging) (lent : List ℤ) → kind-of (j .records) ≡ ranking → judges j .number ≡ 0
     → let l = loop-in (j .records .loop-is) in let c = ranking-in (j .records .certificate-is) in
     Answers-rank j lent (Ranking (Rankings.start l c) (Rankings.fall l c)) (Rankings.rank l c)
-unfolding judges verdict-of rank-after ranks outcome-of has-rank rank-of start-of fall-of ranked-loop ranking-of is-lasso variables-of Rankings.rank loop-in
-ranking-answers j lent e h = record { verdict-is = rw (accepted-said j h, e, e); list-is = rw (accepted-said j h, e, length-tabulate) }
+unfolding claim ranking-claim variables-of Rankings.rank loop-in
+ranking-answers j lent e h =
+    let a = claim-answers j lent ranking e h in
+    record { verdict-is = a .0; list-is = rw length-tabulate at (a .1) }
 
 pub lasso-answers : (j : Judging) (lent : List ℤ) → kind-of (j .records) ≡ lasso → judges j .number ≡ 0
-    → let l = loop-in (j .records .loop-is) in let c = lasso-in (j .records .certificate-is) in
-    Answers-rank j lent (Lasso (Rankings.start (Lassos.longer l c) (c .ranking)) (Rankings.fall (Lassos.longer l c) (c .ranking))) (Rankings.rank (Lassos.longer l c) (c .ranking))
-unfolding judges verdict-of rank-after ranks outcome-of has-rank rank-of start-of fall-of ranked-loop ranking-of is-lasso variables-of Rankings.rank loop-in
-lasso-answers j lent e h = record { verdict-is = rw (accepted-said j h, e, e); list-is = rw (accepted-said j h, e, length-tabulate) }
+    → let c = lasso-in (j .records .certificate-is) in let l = Lassos.longer (loop-in (j .records .loop-is)) c in
+    Answers-rank j lent (Lasso (Rankings.start l (c .ranking)) (Rankings.fall l (c .ranking))) (Rankings.rank l (c .ranking))
+unfolding claim lasso-claim variables-of Rankings.rank loop-in
+lasso-answers j lent e h =
+    let a = claim-answers j lent lasso e h in
+    record { verdict-is = a .0; list-is = rw length-tabulate at (a .1) }
 
 pub exclusion-answers : (j : Judging) (lent : List ℤ) → kind-of (j .records) ≡ exclusion → judges j .number ≡ 0
     → (judges j ≡ shows (Exclusion (grade-of (exclusion-in (j .records .certificate-is) .q)))) × (rank-after j lent ≡ lent)
-unfolding judges verdict-of rank-after ranks outcome-of has-rank
-exclusion-answers j lent e h = (rw (accepted-said j h, e), rw (accepted-said j h, e))
+unfolding claim exclusion-claim
+exclusion-answers j lent e h = claim-answers j lent exclusion e h

@@ -31,12 +31,13 @@ use Rattle.theory.proofs.RankingTheorems.{ranking-bounds-runs}
 use Rattle.verdict.specs.Contents.{loop-in, ranking-in, exclusion-in, lasso-in, parts}
 use Rattle.verdict.specs.Judging.{Judging, judges, judge-of, certificates-judged}
 use Rattle.verdict.specs.Outcomes.{grade-of}
-use Rattle.verdict.specs.Pairs.{Pair, loop-record, certificate-record, kind-of, conditions}
+use Rattle.verdict.specs.Pairs.{Pair, loop-record, certificate-record, kind-of}
 use Rattle.verdict.specs.declared.Grade.the-variants.{Whole, Fractions}
 use Rattle.verdict.specs.Bounding.{Bounding, given-state, bounding, bounds, bound-of}
 use Rattle.verdict.specs.StateTests.{state-tests}
 use Rattle.verdict.proofs.BoundAnswers.{number-bounded, invariant-holds, bounded-exactly-when-ranking, bounded-exactly-when-lasso, ranking-bound-is, lasso-bound-is}
-use Rattle.verdict.proofs.Accepted.{folded-number, lasso-conditions, accepted-exactly-when-ranking, accepted-exactly-when-exclusion, accepted-exactly-when-lasso}
+use Rattle.verdict.proofs.Accepted.{lasso-conditions, accepted-exactly-when-ranking, accepted-exactly-when-exclusion, accepted-exactly-when-lasso}
+use Rattle.verdict.proofs.ConditionLaws.{conditions-silent}
 use Rattle.verdict.proofs.PartsInRange.{ranking-parts, exclusion-parts, lasso-parts}
 
 -- ---- what the ranges give
@@ -178,7 +179,7 @@ module _ (l c : List ℕ) (state : List ℤ) where
   pub after-stem-never-11 : kind-of (b .records) ≡ lasso
       → (x : List ℤ) → Step (Lassos.stemOf (loop-in (b .records .loop-is)) (lasso-in (b .records .certificate-is))) 1 x state
       → bounds b .verdict .number ≡ 11 → ⊥
-  unfolding bounding sound state-tests conditions bound-of number
+  unfolding bounding sound state-tests bound-of number
   after-stem-never-11 e x after h =
       silent-said 11 bounding b (λ z. omega arith) (
         number-avoided 11 sound (b .records .loop-is) (λ z. omega arith) refl,
@@ -187,7 +188,7 @@ module _ (l c : List ℕ) (state : List ℤ) where
           λ certificate-sound. (
             number-avoided 11 state-tests (given-state b) (λ z. omega arith) refl,
             λ state-done. (
-              folded-number 11 _ (λ z. omega arith) (λ z. omega arith),
+              conditions-silent (b .records) 11 (λ z. omega arith) (omega arith),
               λ conditions-done. (
                 λ told-11.
                     let holds = lasso-conditions (b .records) e .0 conditions-done in

@@ -1,3 +1,4 @@
+pub mod ConditionLaws
 pub mod Accepted
 pub mod StatesInRange
 pub mod BoundAnswers

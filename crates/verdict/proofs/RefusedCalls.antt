@@ -1,7 +1,6 @@
 -- A refused judging shows nothing and changes no entry of the rank list; a refused bound call shows nothing and has the bound 0. Assumes nothing.
 use mathlib.Core.Path.{_≡_, refl}
 use Prim.Native.Nat.{ℕ}
-use mathlib.Core.Bool.{Bool}
 use mathlib.Core.List.{List}
 use lib.IntN.{ℤ}
 use Rattle.verdict.specs.Bounding.{Bounding, bounding, bounded, bounds}
@@ -12,11 +11,11 @@ use Rattle.verdict.specs.declared.Outcome.the-variants.{Nothing}
 
 pub refused-judging : (j : Judging) (lent : List ℤ) → (judges j .number ≡ 0 → ⊥) → (judges j .outcome ≡ Nothing) × (rank-after j lent ≡ lent)
 unfolding judges rank-after verdict-of ranks
-refused-judging j lent told = by-said (said judging j) _ _ _ told
+refused-judging j lent told = by-said (said judging j) _ _ told
   where
-    by-said : (s : Said) (o : Outcome) (ranked : Bool) (r : List ℤ) → (verdict-of s o .number ≡ 0 → ⊥) → (verdict-of s o .outcome ≡ Nothing) × (ranks s ranked r lent ≡ lent)
-    by-said agreed o ranked r h = absurd (h refl)
-    by-said (refusal about number place) o ranked r h = (refl, refl)
+    by-said : (s : Said) (o : Outcome) (r : List ℤ) → (verdict-of s o .number ≡ 0 → ⊥) → (verdict-of s o .outcome ≡ Nothing) × (ranks s r lent ≡ lent)
+    by-said agreed o r h = absurd (h refl)
+    by-said (refusal about number place) o r h = (refl, refl)
 
 pub refused-bounding : (b : Bounding) → (bounds b .verdict .number ≡ 0 → ⊥) → (bounds b .verdict .outcome ≡ Nothing) × (bounds b .bound ≡ 0)
 unfolding bounds bounded verdict-of

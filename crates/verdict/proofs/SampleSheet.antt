@@ -26,9 +26,9 @@ use Rattle.verdict.proofs.StatesInRange.{before-inside}
 use Rattle.verdict.proofs.StageLaws.{agrees-said}
 use borrow.Author.Tests.{eq-eqb}
 
--- a failed condition or invariant, as 01 tells it
-abbrev pub fails : ℕ → Verdict
-fails number = record { number = number; place = 0; about = 2; outcome = Nothing }
+-- a failed condition or invariant: number and place
+abbrev pub fails : ℕ → ℕ → Verdict
+fails number place = record { number = number; place = place; about = 2; outcome = Nothing }
 
 pub data Claim : Type 0 where
   -- loop, certificate, places of the rank list, the verdict, the list afterwards
@@ -48,8 +48,8 @@ unfoldable pub sheet : List Claim
 sheet =
     judged P S1 3 (shows (Ranking (pos 2) (pos 1))) (pos 1 ∷ − 1 ∷ pos 77 ∷ [])
     ∷ judged P S2 3 (shows (Ranking (pos 4) (pos 2))) (pos 2 ∷ − 2 ∷ pos 77 ∷ [])
-    ∷ judged P S3 3 (fails 8) (pos 77 ∷ pos 77 ∷ pos 77 ∷ [])
-    ∷ judged P second-of-P 3 (fails 8) (pos 77 ∷ pos 77 ∷ pos 77 ∷ [])
+    ∷ judged P S3 3 (fails 24 0) (pos 77 ∷ pos 77 ∷ pos 77 ∷ [])
+    ∷ judged P second-of-P 3 (fails 22 1) (pos 77 ∷ pos 77 ∷ pos 77 ∷ [])
     ∷ bounded-at P S1 (pos 5 ∷ pos 1 ∷ []) (record { verdict = shows (Ranking (pos 2) (pos 1)); bound = 3 })
     ∷ bounded-at P S1 (pos 3 ∷ pos 1 ∷ []) (record { verdict = shows (Ranking (pos 2) (pos 1)); bound = 1 })
     ∷ bounded-at P S1 (pos 2 ∷ pos 1 ∷ []) (record { verdict = shows (Ranking (pos 2) (pos 1)); bound = 0 })
@@ -58,9 +58,9 @@ sheet =
     ∷ judged halves S9 2 (shows (Exclusion Fractions)) (pos 77 ∷ pos 77 ∷ [])
     ∷ judged with-stem S10 3 (shows (Lasso (pos 0) (pos 1))) (pos 1 ∷ pos 0 ∷ pos 77 ∷ [])
     ∷ bounded-at with-stem S10 (pos 5 ∷ pos 1 ∷ []) (record { verdict = shows (Lasso (pos 0) (pos 1)); bound = 6 })
-    ∷ bounded-at with-stem S10 (pos 5 ∷ pos 0 ∷ []) (record { verdict = fails 11; bound = 0 })
+    ∷ bounded-at with-stem S10 (pos 5 ∷ pos 0 ∷ []) (record { verdict = fails 11 0; bound = 0 })
     ∷ judged with-stem S11 3 (shows (Exclusion Whole)) (pos 77 ∷ pos 77 ∷ pos 77 ∷ [])
-    ∷ judged no-rows S12-ranking 2 (fails 8) (pos 77 ∷ pos 77 ∷ [])
+    ∷ judged no-rows S12-ranking 2 (fails 24 0) (pos 77 ∷ pos 77 ∷ [])
     ∷ judged no-rows S12-exclusion 2 (shows (Exclusion Whole)) (pos 77 ∷ pos 77 ∷ [])
     ∷ judged no-steps S13 2 (shows (Ranking (pos 0) (pos 1))) (pos 0 ∷ pos 77 ∷ [])
     ∷ bounded-everywhere no-steps S13 (record { verdict = shows (Ranking (pos 0) (pos 1)); bound = 1 })

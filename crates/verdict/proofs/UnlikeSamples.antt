@@ -34,7 +34,7 @@ unfoldable pub claims : List Claim
 claims =
     -- k 2, T (2), k2 1 is accepted; k 1, T (2), k2 2 is not
     judged with-stem (S10-scaled 2 2 1) 3 (shows (Lasso (pos 0) (pos 1))) (pos 1 ∷ pos 0 ∷ pos 77 ∷ [])
-    ∷ judged with-stem (S10-scaled 1 2 2) 3 (fails 8) (pos 77 ∷ pos 77 ∷ pos 77 ∷ [])
+    ∷ judged with-stem (S10-scaled 1 2 2) 3 (fails 42 1) (pos 77 ∷ pos 77 ∷ pos 77 ∷ [])
     ∷ judged unlike-loop unlike-ranking 3 (shows (Ranking (pos 14) (pos 9))) (pos 23 ∷ − 39 ∷ pos 77 ∷ [])
     ∷ bounded-at unlike-loop unlike-ranking (pos 9 ∷ pos 4 ∷ []) (record { verdict = shows (Ranking (pos 14) (pos 9)); bound = 5 })
     ∷ judged excluded-loop unlike-exclusion 3 (shows (Exclusion Whole)) (pos 77 ∷ pos 77 ∷ pos 77 ∷ [])

@@ -85,8 +85,8 @@ judging-edges =
     ∷ (judge with-stem S10 3 gives 0 at 0 of 0)
     ∷ (judge with-stem never-started 1 gives 7 at 2 of 0)
     ∷ (judge ends-without-rank S7 0 gives 0 at 0 of 0)
-    ∷ (judge P S3 2 gives 8 at 0 of 2)
-    ∷ (judge by-two (excluding 1 0 0 0) 0 gives 8 at 0 of 2)
+    ∷ (judge P S3 2 gives 24 at 0 of 2)
+    ∷ (judge by-two (excluding 1 0 0 0) 0 gives 32 at 1 of 2)
     ∷ []
 
 -- bound: each refusal; neighbours
@@ -111,8 +111,8 @@ bounding-edges =
     ∷ (bound P S1 (pos 1000000 ∷ − 1000001 ∷ []) gives 9 at 1 of 0)
     ∷ (bound P S3 (pos 0 ∷ pos 1000001 ∷ []) gives 9 at 1 of 0)
     ∷ (bound P S1 (pos 1000000 ∷ − 1000000 ∷ []) gives 0 at 0 of 0)
-    ∷ (bound P S3 (pos 5 ∷ pos 1 ∷ []) gives 8 at 0 of 2)
-    ∷ (bound with-stem never-started (pos 5 ∷ pos 0 ∷ []) gives 8 at 0 of 2)
+    ∷ (bound P S3 (pos 5 ∷ pos 1 ∷ []) gives 24 at 0 of 2)
+    ∷ (bound with-stem never-started (pos 5 ∷ pos 0 ∷ []) gives 42 at 1 of 2)
     ∷ (bound with-stem S10 (pos 5 ∷ pos 0 ∷ []) gives 11 at 0 of 2)
     ∷ (bound with-stem S10 (pos 5 ∷ − 1 ∷ []) gives 11 at 0 of 2)
     ∷ (bound with-stem S10 (− 5 ∷ pos 1 ∷ []) gives 0 at 0 of 0)
@@ -125,8 +125,8 @@ look-right =
     ∷ (judge no-steps (weights 0 65535) 1 gives 6 at 8 of 2)
     ∷ (judge ends-without-rank (excluding 0 0 0 0) 1 gives 6 at 6 of 2)
     ∷ (judge by-two (excluding 0 0 0 0) 1 gives 6 at 6 of 2)
-    ∷ (judge with-stem never-started 2 gives 8 at 0 of 2)
-    ∷ (judge with-stem kept-by-itself 2 gives 8 at 0 of 2)
+    ∷ (judge with-stem never-started 2 gives 42 at 1 of 2)
+    ∷ (judge with-stem kept-by-itself 2 gives 44 at 1 of 2)
     ∷ []
 
 unfoldable pub edges : List Edge

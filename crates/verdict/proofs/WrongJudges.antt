@@ -22,7 +22,7 @@ accepts-S1 : judges (judge-of P S1 two-places) .number ≡ 0
 unfolding computing P S1 Records.P Records.S1
 accepts-S1 = refl
 
-refuses-S3 : judges (judge-of P S3 two-places) .number ≡ 8
+refuses-S3 : judges (judge-of P S3 two-places) .number ≡ 24
 unfolding computing P S3 Records.P ranking-bytes ranking-values
 refuses-S3 = refl
 
@@ -33,7 +33,7 @@ refuses-everything verdict refuses h = refuses (ap (λ (a : Verdict). a .number)
 -- S1 is accepted and S3 is not, so no single verdict serves both
 pub one-verdict : (verdict : Verdict) → verdict ≡ judges (judge-of P S1 two-places) → verdict ≡ judges (judge-of P S3 two-places) → ⊥
 one-verdict verdict h k =
-    let z : _≡_ {A = ℕ} 0 8 = sym (ap (λ (a : Verdict). a .number) h ∙ accepts-S1) ∙ (ap (λ (a : Verdict). a .number) k ∙ refuses-S3) in
+    let z : _≡_ {A = ℕ} 0 24 = sym (ap (λ (a : Verdict). a .number) h ∙ accepts-S1) ∙ (ap (λ (a : Verdict). a .number) k ∙ refuses-S3) in
     omega arith
 
 -- the bound at (5, 1) is 3 and no larger

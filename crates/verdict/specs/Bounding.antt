@@ -1,18 +1,14 @@
 -- 01, "Numbers of the verdict": what the bound call answers, on every pair of byte strings and every state.
--- "Bound: loop, certificate (kind 3 gives 4), 10, 9, 8, 11" is the list `bounding`.
+-- "Bound: loop, certificate (kind 3 gives 4), 10, 9, 8, 11" is the list `bounding`; by 02, Q-1, the conditions' own numbers take the place of 8.
 use Prim.Native.Nat.{ℕ}
-use mathlib.Core.Bool.{Bool, true, false, not, _||_}
+use mathlib.Core.Bool.{Bool, true, false}
 use mathlib.Core.List.{List, [], _∷_}
-use lib.IntN.{ℤ, pos, _+ℤ_}
-use lib.Signed.{leZ}
-use Rattle.record.specs.Layouts.{Kind, is-lasso}
+use lib.IntN.{ℤ}
+use Rattle.record.specs.Layouts.{Kind}
 use Rattle.record.specs.Readers.{sound}
 use Rattle.record.specs.Wants.{wants-of}
 use Rattle.refusal.specs.Tests.{Test, _at_unless_, first}
-use Rattle.theory.specs.Rankings as Rankings
-use Rattle.whole.specs.Sums.{dot}
-use Rattle.verdict.specs.Contents.{lasso-in}
-use Rattle.verdict.specs.Pairs.{Pair, pair-of, kind-of, variables-of, conditions, rank-of, start-of, fall-of, outcome-of}
+use Rattle.verdict.specs.Pairs.{Pair, pair-of, kind-of, variables-of, claim, conditions, outcome-of}
 use Rattle.verdict.specs.StateTests.{Given-state, state-tests}
 use Rattle.verdict.specs.Stages.{Said, agreed, refusal, Stage, _says_, said, verdict-of}
 use Rattle.verdict.specs.declared.Bounded.{Bounded}
@@ -31,14 +27,9 @@ pub record Bounding : Type 0 where
 abbrev pub given-state : Bounding → Given-state
 given-state b = record { n = variables-of (b .records); state = b .state }
 
--- the invariant of a lasso: s·x + s0 >= 0
+-- a lasso's state is outside the invariant
 unfoldable pub invariant : List (Test Bounding)
-invariant =
-    (11 at (λ b. 0)
-    unless λ b.
-    not (is-lasso (kind-of (b .records)))
-    || leZ (pos 0) (dot (lasso-in (b .records .certificate-is) .s) (b .state) +ℤ lasso-in (b .records .certificate-is) .s0))
-    ∷ []
+invariant = (11 at (λ b. 0) unless λ b. claim (kind-of (b .records)) (b .records) .speaks-of (b .state)) ∷ []
 
 unfoldable pub bounding : List (Stage Bounding)
 bounding =
@@ -57,7 +48,7 @@ bounded (refusal about number place) outcome bound = record { verdict = verdict-
 unfoldable pub bounds : Bounding → Bounded
 bounds b =
     bounded (said bounding b) (outcome-of (kind-of (b .records)) (b .records))
-    (Rankings.bound (rank-of (b .records)) (start-of (b .records)) (fall-of (b .records)) (b .state))
+    (claim (kind-of (b .records)) (b .records) .bound (b .state))
 
 -- bound on bytes
 unfoldable pub bound-of : List ℕ → List ℕ → List ℤ → Bounding

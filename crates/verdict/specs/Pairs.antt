@@ -1,21 +1,18 @@
--- The two records that a judge gets: when each is sound, the conditions of the certificate's kind over the loop that the bytes hold,
--- and what the certificate then shows.
+-- The two records that a judge gets: when each is sound, and what the certificate claims, by its kind, of the loop that the bytes hold.
 use Prim.Native.Nat.{ℕ}
 use mathlib.Core.Bool.{Bool, cond}
 use mathlib.Core.List.{List}
 use lib.IntN.{ℤ}
 use Rattle.record.specs.Layouts.{Kind, loop, ranking, exclusion, lasso, other, is-loop, is-lasso}
 use Rattle.record.specs.Readers.{Reader, kind, counts-read}
-use Rattle.refusal.specs.Tests.{Told, done, refused}
-use Rattle.theory.specs.Conditions.{rankingTold, exclusionTold, lassoTold}
+use Rattle.refusal.specs.Tests.{Told}
 use Rattle.theory.specs.Lassos.{longer}
 use Rattle.theory.specs.Loops.{Loop}
 use Rattle.theory.specs.Rankings as Rankings
-use Rattle.theory.specs.Rankings.{rank, start, fall}
+use Rattle.theory.specs.Rankings.{start, fall}
+use Rattle.verdict.specs.Claims.{Claim, ranking-claim, exclusion-claim, lasso-claim, no-claim}
 use Rattle.verdict.specs.Contents.{loop-in, ranking-in, exclusion-in, lasso-in}
-use Rattle.verdict.specs.Outcomes.{grade-of}
 use Rattle.verdict.specs.declared.Outcome.{Outcome}
-use Rattle.verdict.specs.declared.Outcome.the-variants.{Nothing, Ranking, Exclusion, Lasso}
 
 -- ---- the two records
 
@@ -46,44 +43,35 @@ kind-of p = kind (p .certificate-is)
 unfoldable pub variables-of : Pair → ℕ
 variables-of p = counts-read (p .loop-is) .n
 
--- ---- the conditions
+-- ---- what the certificate claims of the loop that the bytes hold
 
--- "8, a condition fails, place 0": what a condition's own number and place become
-unfoldable pub folded : Told → Told
-folded done = done
-folded (refused number place) = refused 8 0
+unfoldable pub claim : Kind → Pair → Claim
+claim loop p = no-claim
+claim ranking p = ranking-claim (loop-in (p .loop-is)) (ranking-in (p .certificate-is))
+claim exclusion p = exclusion-claim (loop-in (p .loop-is)) (exclusion-in (p .certificate-is))
+claim lasso p = lasso-claim (loop-in (p .loop-is)) (lasso-in (p .certificate-is))
+claim other p = no-claim
 
-unfoldable pub conditions-told : Kind → Pair → Told
-conditions-told loop p = done
-conditions-told ranking p = rankingTold (loop-in (p .loop-is)) (ranking-in (p .certificate-is))
-conditions-told exclusion p = exclusionTold (loop-in (p .loop-is)) (exclusion-in (p .certificate-is))
-conditions-told lasso p = lassoTold (loop-in (p .loop-is)) (lasso-in (p .certificate-is))
-conditions-told other p = done
-
+-- what its conditions tell, what it shows where they hold, and its rank
 unfoldable pub conditions : Pair → Told
-conditions p = folded (conditions-told (kind-of p) p)
+conditions p = claim (kind-of p) p .told
 
--- ---- what is shown
+unfoldable pub outcome-of : Kind → Pair → Outcome
+outcome-of k p = claim k p .outcome
 
--- the loop and the ranking of it: kind 2's, or within kind 4 the loop with the added row
+unfoldable pub rank-of : Pair → List ℤ
+rank-of p = claim (kind-of p) p .rank
+
+-- ---- the loop and the ranking of it that a rank, a start and a fall are of: kind 2's, or within kind 4 the loop with the added row
+
 unfoldable pub ranked-loop : Pair → Loop
 ranked-loop p = cond (is-lasso (kind-of p)) (longer (loop-in (p .loop-is)) (lasso-in (p .certificate-is))) (loop-in (p .loop-is))
 
 unfoldable pub ranking-of : Pair → Rankings.Ranking
 ranking-of p = cond (is-lasso (kind-of p)) (lasso-in (p .certificate-is) .ranking) (ranking-in (p .certificate-is))
 
-unfoldable pub rank-of : Pair → List ℤ
-rank-of p = rank (ranked-loop p) (ranking-of p)
-
 unfoldable pub start-of : Pair → ℤ
 start-of p = start (ranked-loop p) (ranking-of p)
 
 unfoldable pub fall-of : Pair → ℤ
 fall-of p = fall (ranked-loop p) (ranking-of p)
-
-unfoldable pub outcome-of : Kind → Pair → Outcome
-outcome-of loop p = Nothing
-outcome-of ranking p = Ranking (start-of p) (fall-of p)
-outcome-of exclusion p = Exclusion (grade-of (exclusion-in (p .certificate-is) .q))
-outcome-of lasso p = Lasso (start-of p) (fall-of p)
-outcome-of other p = Nothing

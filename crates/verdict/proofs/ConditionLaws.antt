@@ -1,0 +1,118 @@
+-- What the conditions of a pair of records tell: exactly the first that fails, with a number from 21 to 46 and a column or a row of the loop. So 0 is told only
+-- when all of them hold, and no number of another test is told by them.
+use mathlib.Core.Path.{_≡_, refl, sym, ap, _∙_}
+use mathlib.Core.Logic.{_↔_}
+use Prim.Native.Nat.{ℕ, _+_, _≤_, _<_}
+use native.Mathlib.Omega.{arith}
+use lib.ListN.{length}
+use Rattle.record.specs.Layouts.{Kind, loop, ranking, exclusion, lasso, other}
+use Rattle.refusal.specs.Places.{FirstFailing}
+use Rattle.refusal.specs.Tests.{Told, done, refused, number}
+use Rattle.refusal.proofs.TestLaws.{never}
+use Rattle.theory.specs.Conditions.{rankingTold, exclusionTold, lassoTold}
+use Rattle.theory.specs.Exclusions as Exclusions
+use Rattle.theory.specs.Fails.{RankingFails, fails-21, fails-22, fails-23, fails-24, ExclusionFails, fails-31, fails-32}
+use Rattle.theory.specs.Fails.{LassoFails, fails-41, fails-42, fails-43, fails-44, fails-45, fails-46, fails-ranked}
+use Rattle.theory.specs.Lassos as Lassos
+use Rattle.theory.specs.Loops.{Loop}
+use Rattle.theory.specs.Rankings as Rankings
+use Rattle.theory.proofs.Decisions.{told-exactly-ranking, told-exactly-exclusion, told-exactly-lasso}
+use Rattle.verdict.specs.Claims.{ranking-claim, exclusion-claim, lasso-claim, no-claim}
+use Rattle.verdict.specs.Contents.{loop-in, ranking-in, exclusion-in, lasso-in}
+use Rattle.verdict.specs.Fails.{ConditionFails}
+use Rattle.verdict.specs.Pairs.{Pair, kind-of, claim, conditions}
+use Rattle.verdict.proofs.StageLaws.{by-told}
+
+-- ---- the conditions of each kind are its tests of the loop and the values that the bytes hold
+
+module _ (p : Pair) where
+  pub conditions-ranking : kind-of p ≡ ranking → conditions p ≡ rankingTold (loop-in (p .loop-is)) (ranking-in (p .certificate-is))
+  unfolding conditions claim ranking-claim
+  conditions-ranking e = ap (λ k. claim k p .told) e
+
+  pub conditions-exclusion : kind-of p ≡ exclusion → conditions p ≡ exclusionTold (loop-in (p .loop-is)) (exclusion-in (p .certificate-is))
+  unfolding conditions claim exclusion-claim
+  conditions-exclusion e = ap (λ k. claim k p .told) e
+
+  pub conditions-lasso : kind-of p ≡ lasso → conditions p ≡ lassoTold (loop-in (p .loop-is)) (lasso-in (p .certificate-is))
+  unfolding conditions claim lasso-claim
+  conditions-lasso e = ap (λ k. claim k p .told) e
+
+-- ---- exactly the first that fails
+
+claim-told-exactly : (k : Kind) (p : Pair) (number place : ℕ) → (claim k p .told ≡ refused number place) ↔ ConditionFails k p number place
+unfolding claim ranking-claim exclusion-claim lasso-claim no-claim
+claim-told-exactly loop p number place = (λ h. never (sym h), λ h. absurd h)
+claim-told-exactly ranking p number place = told-exactly-ranking (loop-in (p .loop-is)) (ranking-in (p .certificate-is)) number place
+claim-told-exactly exclusion p number place = told-exactly-exclusion (loop-in (p .loop-is)) (exclusion-in (p .certificate-is)) number place
+claim-told-exactly lasso p number place = told-exactly-lasso (loop-in (p .loop-is)) (lasso-in (p .certificate-is)) number place
+claim-told-exactly other p number place = (λ h. never (sym h), λ h. absurd h)
+
+pub told-exactly-conditions : (p : Pair) (number place : ℕ) → (conditions p ≡ refused number place) ↔ ConditionFails (kind-of p) p number place
+unfolding conditions
+told-exactly-conditions p number place = claim-told-exactly (kind-of p) p number place
+
+-- ---- the numbers are 21 to 46, and a place is a column or a row, or 0
+
+pub record Condition-told (most number place : ℕ) : Type 0 where
+  pub beyond-20 : 20 < number
+  pub no-more : number ≤ 46
+  pub place-is : place < most
+
+ranking-told : (most : ℕ) (l : Loop) (c : Rankings.Ranking) (number place : ℕ) → 0 < most → l .variables ≤ most → RankingFails l c number place
+    → Condition-told most number place
+ranking-told most l c number place some few (fails-21 f) = record { beyond-20 = omega arith; no-more = omega arith; place-is = omega (arith, f .below) }
+ranking-told most l c number place some few (fails-22 g f) = record { beyond-20 = omega arith; no-more = omega arith; place-is = omega (arith, f .below) }
+ranking-told most l c number place some few (fails-23 g h f) =
+    record { beyond-20 = omega arith; no-more = omega arith; place-is = omega (arith, f .below) }
+ranking-told most l c number place some few (fails-24 g h i f) = record { beyond-20 = omega arith; no-more = omega arith; place-is = some }
+
+exclusion-told : (most : ℕ) (l : Loop) (c : Exclusions.Exclusion) (number place : ℕ) → length (l .rows) ≤ most → ExclusionFails l c number place
+    → Condition-told most number place
+exclusion-told most l c number place few (fails-31 f) = record { beyond-20 = omega arith; no-more = omega arith; place-is = omega (arith, f .below) }
+exclusion-told most l c number place few (fails-32 g f) = record { beyond-20 = omega arith; no-more = omega arith; place-is = omega (arith, f .below) }
+
+lasso-told : (most : ℕ) (l : Loop) (c : Lassos.Lasso) (number place : ℕ) → 0 < most → l .variables ≤ most → LassoFails l c number place
+    → Condition-told most number place
+lasso-told most l c number place some few (fails-41 f) = record { beyond-20 = omega arith; no-more = omega arith; place-is = omega (arith, f .below) }
+lasso-told most l c number place some few (fails-42 g f) = record { beyond-20 = omega arith; no-more = omega arith; place-is = omega (arith, f .below) }
+lasso-told most l c number place some few (fails-43 g h f) = record { beyond-20 = omega arith; no-more = omega arith; place-is = some }
+lasso-told most l c number place some few (fails-44 s f) = record { beyond-20 = omega arith; no-more = omega arith; place-is = omega (arith, f .below) }
+lasso-told most l c number place some few (fails-45 s g f) = record { beyond-20 = omega arith; no-more = omega arith; place-is = omega (arith, f .below) }
+lasso-told most l c number place some few (fails-46 s g h f) = record { beyond-20 = omega arith; no-more = omega arith; place-is = some }
+lasso-told most l c number place some few (fails-ranked s h f) = ranking-told most (Lassos.longer l c) (c .ranking) number place some few f
+
+-- of a loop of at most so many variables and rows
+pub condition-told : (most : ℕ) (k : Kind) (p : Pair) (number place : ℕ) → 0 < most → loop-in (p .loop-is) .variables ≤ most
+    → length (loop-in (p .loop-is) .rows) ≤ most → ConditionFails k p number place → Condition-told most number place
+condition-told most loop p number place some few few′ h = absurd h
+condition-told most ranking p number place some few few′ h = ranking-told most _ _ number place some few h
+condition-told most exclusion p number place some few few′ h = exclusion-told most _ _ number place few′ h
+condition-told most lasso p number place some few few′ h = lasso-told most _ _ number place some few h
+condition-told most other p number place some few few′ h = absurd h
+
+-- whatever the loop
+pub condition-number : (k : Kind) (p : Pair) (number place : ℕ) → ConditionFails k p number place → (20 < number) × (number ≤ 46)
+condition-number k p number place h =
+    let v = loop-in (p .loop-is) .variables in
+    let m = length (loop-in (p .loop-is) .rows) in
+    let t = condition-told (1 + v + m) k p number place (omega arith) (omega arith) (omega arith) h in
+    (t .beyond-20, t .no-more)
+
+-- ---- so 0 is told only when the conditions hold, and no other number up to 20
+
+module _ (p : Pair) where
+  number-told : (k place : ℕ) → conditions p ≡ refused k place → (20 < k) × (k ≤ 46)
+  number-told k place e = condition-number (kind-of p) p k place (told-exactly-conditions p k place .0 e)
+
+  pub conditions-named : number (conditions p) ≡ 0 → conditions p ≡ done
+  unfolding number
+  conditions-named h =
+      by-told (conditions p) (λ e. e)
+      (λ k place e. absurd (let zero-told : k ≡ 0 = sym (ap number e) ∙ h in omega (arith, number-told k place e .0)))
+
+  pub conditions-silent : (k : ℕ) → (0 ≡ k → ⊥) → k ≤ 20 → number (conditions p) ≡ k → ⊥
+  unfolding number
+  conditions-silent k some low h =
+      by-told (conditions p) (λ e. some (sym (ap number e) ∙ h))
+      (λ n place e. let same : n ≡ k = sym (ap number e) ∙ h in omega (arith, number-told n place e .0))
