@@ -1,46 +1,50 @@
 -- A certificate in a bound call: what the code's answers about its conditions and at the state mean for the definition. The kinds that have a rank share one
 -- text, over the loop and the ranking that their rank is of.
-use mathlib.Core.Path.{_≡_, refl, sym, ap, _∙_}
+use mathlib.Core.Path.{_≡_, refl, sym, ap, ap₂, _∙_}
 use Prim.Native.Nat.{ℕ}
 use mathlib.Core.Bool.{true, false}
 use mathlib.Core.List.{List, _++_}
 use native.Mathlib.Omega.{arith}
-use lib.IntN.{ℤ, pos, _+ℤ_}
+use lib.IntN.{ℤ, pos}
 use lib.ListN.{length, take, drop}
 use lib.Seq.{take-append-seam}
-use lib.Signed.{leZ, _<ℤ_}
-use Rattle.whole.specs.Sums.{dot, sum, Within}
-use Rattle.whole.proofs.Compare.{true-le}
-use Rattle.whole.proofs.Solve.{v, neg, solve-lt, lt-fact}
+use lib.Signed.{_<ℤ_}
+use borrow.Author.Tests.{ne-eqb}
+use Rattle.whole.specs.Sums.{sum, Within}
 use Rattle.whole.proofs.Tables.{length-tabulate}
-use Rattle.record.specs.Layouts.{ranking, lasso, kindOf, is-loop, is-lasso}
+use Rattle.whole.proofs.Solve.{v, neg, solve-lt, lt-fact}
+use Rattle.record.specs.Layouts.{Kind, ranking, lasso, kindOf, is-loop, is-lasso, has-rank}
 use Rattle.record.proofs.SoundRecords.{sound-says}
-use Rattle.refusal.specs.Tests.{done, refused, first}
-use Rattle.refusal.proofs.TestLaws.{either, failed, passes-done}
-use Rattle.theory.specs.Loops.{A′, b, Loop}
-use Rattle.theory.specs.Lassos as Lassos
+use Rattle.refusal.specs.Places.{told-once}
+use Rattle.refusal.specs.Tests.{done, refused, first, number as number-told}
+use Rattle.refusal.proofs.PlaceLaws.{first-once}
+use Rattle.refusal.proofs.TestLaws.{either, never}
+use Rattle.theory.specs.Loops.{b, Loop}
 use Rattle.theory.specs.Rankings as Rankings
 use Rattle.judge_lasso.specs.LassoHeld.{LassoIn, lasso-held}
+use Rattle.judge_ranking.specs.RankedBy.{ranked-of, rank-put}
 use Rattle.judge_ranking.specs.declared.Ranked.{Ranked}
 use Rattle.verdict.specs.Bounding.{Bounding, given-state, invariant, bounding, bounded, bounds, bound-of, certificates-bounded}
+use Rattle.verdict.specs.Claims.{ranking-claim, lasso-claim}
 use Rattle.verdict.specs.Contents.{loop-in, lasso-in}
-use Rattle.verdict.specs.Pairs.{loop-record, Pair, pair-of, kind-of, variables-of, conditions, ranked-loop, ranking-of, rank-of, start-of, fall-of}
+use Rattle.verdict.specs.Pairs.{loop-record, Pair, pair-of, kind-of, variables-of, claim, conditions, ranked-loop, ranking-of, start-of, fall-of}
 use Rattle.verdict.specs.StateTests.{state-tests}
 use Rattle.verdict.specs.Stages.{agreed, said, shows, verdict-of}
 use Rattle.verdict.specs.declared.Bounded.{Bounded}
+use Rattle.verdict.specs.declared.Outcome.{Outcome}
 use Rattle.verdict.proofs.Accepted.{ranking-conditions, lasso-conditions}
-use Rattle.verdict.proofs.BoundAnswers.{invariant-holds}
+use Rattle.verdict.proofs.ConditionLaws.{conditions-named}
 use Rattle.verdict.proofs.StatesInRange.{State-in, state-fits}
-use Rattle.verdict.proofs.StageLaws.{agrees-said}
+use Rattle.verdict.proofs.StageLaws.{by-told, agrees-said}
 use Rattle.verdict.proofs.SumsFit.{Ranking-sums-fit}
 use Rattle.verdict.proofs.SmallSums.{small-state}
 use Rattle.verdict.proofs.SumsFitInBytes.{ranking-sums-fit, lasso-sums-fit-in}
 use Rattle.judge.specs.SoundPairs.{LoopSound, RankSound, RankedOf, rank-outcome}
 use Rattle.judge.proofs.JudgedKinds.{outcome-is}
-use Rattle.judge.proofs.RankKinds.{by-number, as-ranking, as-lasso}
+use Rattle.judge.proofs.RankKinds.{by-rank, by-number, as-ranking, as-lasso}
 use Rattle.judge.proofs.SoundSizes.{loop-kind, counts-are, lasso-long}
 use Rattle.judge.proofs.SoundContents.{lasso-of}
-use Rattle.judge_bound.specs.BoundShown.{no-bound, StateFits, BoundFits, Speaks-of, BoundShown}
+use Rattle.judge_bound.specs.BoundShown.{no-bound, StateFits, BoundFits, invariant-held, speaks-held, bound-shown}
 use Rattle.judge_bound.proofs.BoundingWays.{refused-so, at-conditions, at-invariant}
 
 -- ---- rankings
@@ -49,25 +53,30 @@ falls : (loop : Loop) (c : Rankings.Ranking) → Rankings.RankingHolds loop c �
 unfolding Rankings.fall
 falls loop c h = let z = sum (c .Z) b (loop .rows) in solve-lt (v (pos 0)) (neg (v z)) (omega (arith, lt-fact (v z) (v (pos 0)) (h .fourth)))
 
--- the rank in the front of a list
-front : (loop : Loop) (c : Rankings.Ranking) (before entries : List ℤ) → entries ≡ Rankings.rank loop c ++ drop (loop .variables) before → take (loop .variables) entries ≡ Rankings.rank loop c
+rank-long : (loop : Loop) (c : Rankings.Ranking) → length (Rankings.rank loop c) ≡ loop .variables
 unfolding Rankings.rank
+rank-long loop c = length-tabulate (loop .variables) _
+
+-- the rank in the front of a list
+front : (loop : Loop) (c : Rankings.Ranking) (before entries : List ℤ) → entries ≡ Rankings.rank loop c ++ drop (length (Rankings.rank loop c)) before
+    → take (loop .variables) entries ≡ Rankings.rank loop c
 front loop c before entries put =
-    let long = length-tabulate (loop .variables) (λ j. sum (c .Z) (A′ j) (loop .rows)) in
-    rw put (rw long at (take-append-seam (Rankings.rank loop c) (drop (loop .variables) before)))
+    ap (take (loop .variables)) put
+    ∙ ap (λ k. take k (Rankings.rank loop c ++ drop (length (Rankings.rank loop c)) before)) (sym (rank-long loop c))
+    ∙ take-append-seam (Rankings.rank loop c) (drop (length (Rankings.rank loop c)) before)
+
+-- the bound by them is the certificate's
+bound-is : (k : Kind) (p : Pair) → kind-of p ≡ k → has-rank k ≡ true → (state : List ℤ)
+    → Rankings.bound (Rankings.rank (ranked-loop p) (ranking-of p)) (start-of p) (fall-of p) state ≡ claim k p .bound state
+unfolding claim ranking-claim lasso-claim start-of fall-of ranked-loop ranking-of is-lasso
+bound-is k p is h state =
+    by-rank (λ k. kind-of p ≡ k → Rankings.bound (Rankings.rank (ranked-loop p) (ranking-of p)) (start-of p) (fall-of p) state ≡ claim k p .bound state) k h (λ e. rw e) (λ e. rw e) is
 
 -- what a bound needs of the loop and the ranking that a pair's rank is of
 record Rank-facts (p : Pair) (n : ℕ) : Type 0 where
   counted : ranked-loop p .variables ≡ n
   sizes : Ranking-sums-fit (ranked-loop p) (ranking-of p)
   holds-so : conditions p ≡ done → Rankings.RankingHolds (ranked-loop p) (ranking-of p)
-
--- an invariant that fails
-outside : (b : Bounding) → kind-of (b .records) ≡ lasso → (Lassos.Invariant (lasso-in (b .records .certificate-is)) (b .state) → ⊥) → first invariant b ≡ refused 11 0
-unfolding invariant is-lasso
-outside b told fails =
-    let at-state = dot (lasso-in (b .records .certificate-is) .s) (b .state) +ℤ lasso-in (b .records .certificate-is) .s0 in
-    failed 11 _ _ _ b (rw told (either (leZ (pos 0) at-state) (λ h. absurd (fails (true-le _ _ h))) (λ h. h)))
 
 module _ (loopbytes : List ℕ) (n m : ℕ) (l : LoopSound loopbytes n m) (certificate : List ℕ) (state : List ℤ) (fits : StateFits state n) where
   abbrev call : Bounding
@@ -102,22 +111,20 @@ module _ (loopbytes : List ℕ) (n m : ℕ) (l : LoopSound loopbytes n m) (certi
     pub lasso-there : number ≡ 4 → LassoIn certificate n m ms
     lasso-there four = lasso-long loopbytes n m ms l certificates-bounded certificate (as-lasso c four) (c .ms-is)
 
-    abbrev Starts : Type 0
-    Starts = Speaks-of certificate n m number ms state
-
-    starts-told : Starts → first invariant call ≡ done
-    unfolding bound-of invariant is-lasso kindOf
-    starts-told starts =
+    speaks-so : speaks-held certificate n m number ms state ≡ claim (kind-of p) p .speaks-of state
+    unfolding speaks-held invariant-held claim ranking-claim lasso-claim kindOf
+    speaks-so =
         by-number number (c .ranks)
-        (λ two. passes-done invariant call (rw (kind-told, two), tt))
-        (λ four. invariant-holds call (kind-told ∙ ap kindOf four) .1 (rw (lasso-told four) (starts four)))
+        (λ two. rw two (ap (λ k. claim k p .speaks-of state) (sym (kind-told ∙ ap kindOf two))))
+        (λ four. rw (four, ← lasso-told four) (ap (λ k. claim k p .speaks-of state) (sym (kind-told ∙ ap kindOf four))))
 
-    outside-told : (Starts → ⊥) → first invariant call ≡ refused 11 0
-    unfolding bound-of kindOf
-    outside-told fails =
-        by-number number (c .ranks)
-        (λ two. absurd (fails (λ four. absurd (omega (arith, two, four)))))
-        (λ four. outside call (kind-told ∙ ap kindOf four) (λ h. fails (λ _. rw (lasso-told four) at h)))
+    invariant-told : first invariant call ≡ told-once 11 (speaks-held certificate n m number ms state)
+    unfolding invariant bound-of
+    invariant-told = first-once 11 _ call ∙ ap (told-once 11) (sym speaks-so)
+
+    never-0 : (number place : ℕ) → conditions p ≡ refused number place → number ≡ 0 → ⊥
+    unfolding number-told
+    never-0 number place e zero = never (sym e ∙ conditions-named p (ap number-told e ∙ zero))
 
     -- ---- the loop and the ranking that the rank is of
 
@@ -148,46 +155,66 @@ module _ (loopbytes : List ℕ) (n m : ℕ) (l : LoopSound loopbytes n m) (certi
     -- ---- the answers
 
     module _ (r : Ranked) (before entries : List ℤ) (by : RankedOf r p before entries) (long : length entries ≡ 16) where
-      pub ranked-refused : r .holds ≡ false → no-bound 2 8 0 ≡ bounds call
-      unfolding bound-of
-      ranked-refused e = refused-so call 2 8 0 (at-conditions call (l .told) (c .as-kind .told) state-told (by .decided .no-fails e))
+      -- where the conditions hold
+      module _ (e : conditions p ≡ done) where
+        shown : r ≡ record { number = 0; place = 0; start = start-of p; fall = fall-of p }
+        unfolding ranked-of start-of fall-of
+        shown = rw e at (by .shown)
 
-      module _ (e : r .holds ≡ true) where
-        -- a state at which the invariant fails
-        pub ranked-outside : (Starts → ⊥) → no-bound 2 11 0 ≡ bounds call
-        unfolding bound-of
-        ranked-outside fails =
-            refused-so call 2 11 0 (at-invariant call (l .told) (c .as-kind .told) state-told (by .decided .yes-holds e) (outside-told fails))
+        rank-there : take n entries ≡ Rankings.rank (ranked-loop p) (ranking-of p)
+        unfolding rank-put
+        rank-there = ap (λ k. take k entries) (sym (facts .counted)) ∙ front (ranked-loop p) (ranking-of p) before entries (rw e at (by .put))
 
-        rank-is : take n entries ≡ Rankings.rank (ranked-loop p) (ranking-of p)
-        rank-is = ap (λ k. take k entries) (sym (facts .counted)) ∙ front (ranked-loop p) (ranking-of p) before entries (by .put e)
+        start-is : r .start ≡ Rankings.start (ranked-loop p) (ranking-of p)
+        unfolding start-of
+        start-is = ap (λ r. r .start) shown
 
-        pub ranked-fits : BoundFits entries n (r .start) (r .fall) state
-        ranked-fits =
+        fall-is : r .fall ≡ Rankings.fall (ranked-loop p) (ranking-of p)
+        unfolding fall-of
+        fall-is = ap (λ r. r .fall) shown
+
+        fits-so : BoundFits entries n (r .start) (r .fall) state
+        fits-so =
             record {
               long = long;
-              entries-small = rw rank-is (λ i. omega (arith, facts .sizes .rank-within i));
+              entries-small = rw rank-there (λ i. omega (arith, facts .sizes .rank-within i));
               state-small = λ i. omega (arith, state-small i);
-              above-fits = rw (rank-is, by .start-is e) (omega (arith, facts .sizes .above-start state state-small));
-              falls = rw (by .fall-is e) (falls _ _ (facts .holds-so (by .decided .yes-holds e)));
+              above-fits = rw (rank-there, start-is) (omega (arith, facts .sizes .above-start state state-small));
+              falls = rw fall-is (falls _ _ (facts .holds-so e));
             }
 
-        -- every stage is done
-        agreed-so : Starts → said bounding call ≡ agreed
-        unfolding bound-of bounding
-        agreed-so starts = agrees-said bounding call (l .told, (c .as-kind .told, (state-told, (by .decided .yes-holds e, (starts-told starts, tt)))))
+        -- a state at which the invariant fails, and one at which it holds
+        outside : speaks-held certificate n m number ms state ≡ false → no-bound 2 11 0 ≡ bounds call
+        unfolding bound-of told-once
+        outside fails = refused-so call 2 11 0 (at-invariant call (l .told) (c .as-kind .told) state-told e (invariant-told ∙ rw fails))
 
-        pub ranked-bounded : Starts
-            → _≡_ {A = Bounded} (record { verdict = shows (rank-outcome (kindOf number) (r .start) (r .fall)); bound = Rankings.bound (take n entries) (r .start) (r .fall) state }) (bounds call)
-        unfolding bounds bounded verdict-of bound-of rank-of start-of fall-of
-        ranked-bounded starts =
-            rw (agreed-so starts, kind-told, rank-is, by .start-is e, by .fall-is e)
-            (ap (λ o. record { verdict = shows o; bound = Rankings.bound (rank-of p) (start-of p) (fall-of p) state }) (outcome-is (kindOf number) p (c .ranks)))
+        spoken : speaks-held certificate n m number ms state ≡ true
+            → _≡_ {A = Bounded} (record { verdict = shows (rank-outcome (kindOf number) (start-of p) (fall-of p)); bound = Rankings.bound (Rankings.rank (ranked-loop p) (ranking-of p)) (start-of p) (fall-of p) state }) (bounds call)
+        unfolding bounds bounded verdict-of bound-of bounding told-once
+        spoken holds =
+            let done-so : said bounding call ≡ agreed = agrees-said bounding call (l .told, (c .as-kind .told, (state-told, (e, (invariant-told ∙ rw holds, tt))))) in
+            rw (done-so, kind-told)
+            (ap₂ (λ (o : Outcome) (k : ℕ). record { verdict = shows o; bound = k }) (outcome-is (kindOf number) p kind-told (c .ranks)) (bound-is (kindOf number) p kind-told (c .ranks) state))
 
-      pub ranked-answers : (answer : Bounded) → BoundShown r entries n m certificate number ms state answer → answer ≡ bounds call
-      ranked-answers answer shown =
-          either (r .holds)
+      -- the number that was told is 0 exactly where they hold
+      pub ranked-fits : r .number ≡ 0 → BoundFits entries n (r .start) (r .fall) state
+      unfolding ranked-of
+      ranked-fits zero =
+          by-told (conditions p) fits-so
+          (λ number place e. absurd (never-0 number place e (sym (ap (λ r. r .number) (rw e at (by .shown))) ∙ zero)))
+
+      refused-told : (k q : ℕ) → conditions p ≡ refused k q → bound-shown r entries n m certificate number ms state ≡ bounds call
+      unfolding bound-shown ranked-of bound-of
+      refused-told k q e =
+          let shown-so : r ≡ record { number = k; place = q; start = pos 0; fall = pos 0 } = rw e at (by .shown) in
+          rw (shown-so, ne-eqb k 0 (never-0 k q e)) (refused-so call 2 k q (at-conditions call (l .told) (c .as-kind .told) state-told k q e))
+
+      pub ranked-answers : (answer : Bounded) → answer ≡ bound-shown r entries n m certificate number ms state → answer ≡ bounds call
+      unfolding bound-shown
+      ranked-answers answer is =
+          is ∙
+          by-told (conditions p)
           (λ e.
-          let told = shown .holds-so e in
-          either (told .spoken) (λ t. told .bounded t ∙ ranked-bounded e (told .decided .yes-holds t)) (λ f. told .outside f ∙ ranked-outside e (told .decided .no-fails f)))
-          (λ e. shown .fails e ∙ ranked-refused e)
+          rw (shown e, rank-there e)
+          (either (speaks-held certificate n m number ms state) (λ holds. rw holds (spoken e holds)) (λ fails. rw fails (outside e fails))))
+          refused-told

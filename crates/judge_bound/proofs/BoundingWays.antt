@@ -8,7 +8,6 @@ use Rattle.verdict.specs.StateTests.{state-tests}
 use Rattle.verdict.specs.Pairs.{conditions}
 use Rattle.verdict.specs.Stages.{refusal, said, verdict-of}
 use Rattle.verdict.proofs.StageLaws.{stage-done, stage-refused}
-use Rattle.judge.proofs.JudgingWays.{told-eight}
 use Rattle.judge_bound.specs.BoundShown.{no-bound}
 
 pub refused-so : (b : Bounding) (about number place : ℕ) → said bounding b ≡ refusal about number place → no-bound about number place ≡ bounds b
@@ -33,11 +32,10 @@ module _ (b : Bounding) where
 
       module _ (state-told : first state-tests (given-state b) ≡ done) where
         -- a condition that fails
-        pub at-conditions : (conditions (b .records) ≡ done → ⊥) → said bounding b ≡ refusal 2 8 0
+        pub at-conditions : (k p : ℕ) → conditions (b .records) ≡ refused k p → said bounding b ≡ refusal 2 k p
         unfolding bounding
-        at-conditions fails =
-            stage-done _ _ _ b loop-sound ∙ stage-done _ _ _ b certificate-sound ∙ stage-done _ _ _ b state-told ∙
-            stage-refused _ _ _ b 8 0 (told-eight (b .records) fails)
+        at-conditions k p fails =
+            stage-done _ _ _ b loop-sound ∙ stage-done _ _ _ b certificate-sound ∙ stage-done _ _ _ b state-told ∙ stage-refused _ _ _ b k p fails
 
         -- a state at which the invariant fails
         pub at-invariant : conditions (b .records) ≡ done → first invariant b ≡ refused 11 0 → said bounding b ≡ refusal 2 11 0

@@ -1,10 +1,11 @@
 -- What the bound's functions are told of the state, and the shape of a refusal.
 use Prim.Native.Nat.{ℕ, _<_}
 use mathlib.Core.Path.{_≡_}
-use mathlib.Core.Bool.{Bool, true, false}
+use mathlib.Core.Bool.{Bool, true, cond}
 use mathlib.Core.List.{List}
-use lib.IntN.{ℤ, pos, natAbs, _-ℤ_}
-use lib.Signed.{_<ℤ_}
+use lib.Dec.{eqb}
+use lib.IntN.{ℤ, pos, natAbs, _+ℤ_, _-ℤ_}
+use lib.Signed.{leZ, _<ℤ_}
 use lib.ListN.{length, take}
 use Rattle.whole.specs.Sums.{dot, Within}
 use Rattle.refusal.specs.Tests.{done, first}
@@ -12,9 +13,7 @@ use Rattle.verdict.specs.StateTests.{state-tests}
 use Rattle.verdict.specs.Stages.{shows, refusal-of}
 use Rattle.verdict.specs.declared.Bounded.{Bounded}
 use Rattle.record.specs.Layouts.{kindOf}
-use Rattle.theory.specs.Lassos.{Invariant}
 use Rattle.theory.specs.Rankings as Rankings
-use Rattle.judge_conditions.specs.Whether.{Whether}
 use Rattle.judge_lasso.specs.LassoHeld.{lasso-held}
 use Rattle.judge_ranking.specs.declared.Ranked.{Ranked}
 use Rattle.judge.specs.SoundPairs.{rank-outcome}
@@ -35,26 +34,23 @@ pub record BoundFits (entries : List ℤ) (n : ℕ) (start fall : ℤ) (state : 
   pub above-fits : natAbs (dot (take n entries) state -ℤ start) < 9223372036854775808
   pub falls : pos 0 <ℤ fall
 
--- a lasso's invariant at a state; other kinds have none
-abbrev pub Speaks-of : List ℕ → ℕ → ℕ → ℕ → ℕ → List ℤ → Type 0
-Speaks-of certificate n m kind ms state = kind ≡ 4 → Invariant (lasso-held certificate n m ms) state
+-- a lasso's invariant at a state, s·x + s0 >= 0; other kinds have none
+unfoldable pub invariant-held : List ℕ → ℕ → ℕ → ℕ → List ℤ → Bool
+invariant-held certificate n m ms state =
+    leZ (pos 0) (dot (lasso-held certificate n m ms .s) state +ℤ lasso-held certificate n m ms .s0)
 
--- the answer of a kind that has a rank and whose conditions hold: 11 at a state outside the invariant, and otherwise its outcome and the
--- bound
-pub record BoundSpoken (shown : Ranked) (entries : List ℤ) (n m : ℕ)
-    (certificate : List ℕ) (kind ms : ℕ) (state : List ℤ) (r : Bounded) : Type 0 where
-  pub spoken : Bool
-  pub decided : Whether spoken (Speaks-of certificate n m kind ms state)
-  pub outside : spoken ≡ false → r ≡ no-bound 2 11 0
-  pub bounded : spoken ≡ true
-      → r
-      ≡ record {
-        verdict = shows (rank-outcome (kindOf kind) (shown .start) (shown .fall));
-        bound = Rankings.bound (take n entries) (shown .start) (shown .fall) state;
-      }
+unfoldable pub speaks-held : List ℕ → ℕ → ℕ → ℕ → ℕ → List ℤ → Bool
+speaks-held certificate n m kind ms state = cond (eqb kind 4) (invariant-held certificate n m ms state) true
 
--- from what its conditions tell: 8 where they fail
-pub record BoundShown (shown : Ranked) (entries : List ℤ) (n m : ℕ)
-    (certificate : List ℕ) (kind ms : ℕ) (state : List ℤ) (r : Bounded) : Type 0 where
-  pub fails : shown .holds ≡ false → r ≡ no-bound 2 8 0
-  pub holds-so : shown .holds ≡ true → BoundSpoken shown entries n m certificate kind ms state r
+-- the answer of a kind that has a rank, from what its conditions tell: the first that fails; 11 at a state outside the invariant; and
+-- otherwise its outcome and the bound
+unfoldable pub bound-shown : Ranked → List ℤ → ℕ → ℕ → List ℕ → ℕ → ℕ → List ℤ → Bounded
+bound-shown shown entries n m certificate kind ms state =
+    cond (eqb (shown .number) 0)
+    (cond (speaks-held certificate n m kind ms state)
+    (record {
+      verdict = shows (rank-outcome (kindOf kind) (shown .start) (shown .fall));
+      bound = Rankings.bound (take n entries) (shown .start) (shown .fall) state;
+    })
+    (no-bound 2 11 0))
+    (no-bound 2 (shown .number) (shown .place))

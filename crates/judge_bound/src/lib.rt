@@ -1,18 +1,16 @@
 // Bound: how many steps a loop can take from a state, by a certificate that has a rank. Every input has an answer.
 ghost use mathlib.Core.Path.{_≡_};
-ghost use mathlib.Core.Bool.{true, cond};
+ghost use mathlib.Core.Bool.{cond};
 ghost use Prim.Native.Nat.{_+_, _/_, _<_, _≤_};
 ghost use lib.IntN.{pos, natAbs, _-ℤ_};
 ghost use lib.Signed.{ltZ, _<ℤ_};
 ghost use lib.ListN.{length, take};
 ghost use Rattle.whole.specs.Sums.{Within};
 ghost use Rattle.theory.specs.Rankings as Rankings;
-ghost use Rattle.theory.specs.Lassos.{Invariant};
 ghost use Rattle.verdict.specs.Bounding.{bounds, bound-of, certificates-bounded};
-ghost use Rattle.judge_conditions.specs.Whether.{Whether};
-ghost use Rattle.judge_lasso.specs.LassoHeld.{LassoIn, lasso-held};
+ghost use Rattle.judge_lasso.specs.LassoHeld.{LassoIn};
 ghost use Rattle.judge.specs.SoundPairs.{LoopSound, RankSound};
-ghost use Rattle.judge_bound.specs.BoundShown.{no-bound, StateFits, BoundFits, BoundShown};
+ghost use Rattle.judge_bound.specs.BoundShown.{no-bound, StateFits, BoundFits, invariant-held, speaks-held, bound-shown};
 use judge_ranking::Ranked;
 use record::Wanted;
 use verdict::Bounded;
@@ -49,7 +47,7 @@ fn bound_at(entries: &[i64], n: usize, start: i64, fall: i64, state: &[i64]) -> 
 // A lasso's invariant at a state.
 fn meets_invariant(certificate: &[u8], n: usize, m: usize, ms: usize, state: &[i64]) -> bool
     requires { ⌜ LassoIn (now certificate) n m ms × (length (now state) ≡ n) × Within 1048576 (now state) ⌝ }
-    ensures { λ r. ⌜ Whether r (Invariant (lasso-held (now (certificate .entry)) n m ms) (now (state .entry))) ⌝ }
+    ensures { λ r. ⌜ r ≡ invariant-held (now (certificate .entry)) n m ms (now (state .entry)) ⌝ }
 {
     let s = 8 + ms * (4 * n + 4);
     let reached = judge_sums::entries_at(certificate, s, state);
@@ -60,7 +58,7 @@ fn meets_invariant(certificate: &[u8], n: usize, m: usize, ms: usize, state: &[i
 // Whether a certificate's bound is for a state: a lasso's is for those that meet its invariant, a ranking's for all.
 fn speaks_of(certificate: &[u8], n: usize, m: usize, kind: usize, ms: usize, state: &[i64]) -> bool
     requires { ⌜ (kind ≡ 4 → LassoIn (now certificate) n m ms) × (length (now state) ≡ n) × Within 1048576 (now state) ⌝ }
-    ensures { λ r. ⌜ Whether r (kind ≡ 4 → Invariant (lasso-held (now (certificate .entry)) n m ms) (now (state .entry))) ⌝ }
+    ensures { λ r. ⌜ r ≡ speaks-held (now (certificate .entry)) n m kind ms (now (state .entry)) ⌝ }
 {
     if kind != 4 {
         return true;
@@ -79,12 +77,12 @@ fn ranked_bound(
     ms: usize,
     state: &[i64],
 ) -> Bounded
-    requires { ⌜ (shown .holds ≡ true → BoundFits (now entries) n (shown .start) (shown .fall) (now state)) × (n ≤ 16)
+    requires { ⌜ (shown .number ≡ 0 → BoundFits (now entries) n (shown .start) (shown .fall) (now state)) × (n ≤ 16)
         × (kind ≡ 4 → LassoIn (now certificate) n m ms) × (length (now state) ≡ n) × Within 1048576 (now state) ⌝ }
-    ensures { λ r. ⌜ BoundShown shown (now (entries .entry)) n m (now (certificate .entry)) kind ms (now (state .entry)) r ⌝ }
+    ensures { λ r. ⌜ r ≡ bound-shown shown (now (entries .entry)) n m (now (certificate .entry)) kind ms (now (state .entry)) ⌝ }
 {
-    if !shown.holds {
-        return refused(2, 8, 0);
+    if shown.number != 0 {
+        return refused(2, shown.number, shown.place);
     }
     if !speaks_of(certificate, n, m, kind, ms, state) {
         return refused(2, 11, 0);

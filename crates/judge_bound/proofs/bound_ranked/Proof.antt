@@ -1,7 +1,6 @@
 -- `judge_bound::bound_ranked` meets its contract: what each kind's conditions tell of the places they tell of the records, and so the answer is the bound's.
 -- Assumes nothing.
 use mathlib.Core.Path.{_≡_}
-use mathlib.Core.Bool.{true}
 use Prim.Native.Nat.{_≤_}
 use native.Mathlib.Omega.{arith}
 use mathlib.Core.List.{List}
@@ -29,7 +28,7 @@ module _ (s : tie.Start) where
   Told shown entries = RankedOf shown (pair-of certificates-bounded (s .args .loopbytes .now) (s .args .certificate .now)) (replicate 16 (pos 0)) entries
 
   needed : (shown : Ranked) (entries : List ℤ) → Told shown entries → length entries ≡ 16
-      → (shown .holds ≡ true → BoundFits entries (s .args .n) (shown .start) (shown .fall) (s .args .state .now)) × (s .args .n ≤ 16)
+      → (shown .number ≡ 0 → BoundFits entries (s .args .n) (shown .start) (shown .fall) (s .args .state .now)) × (s .args .n ≤ 16)
       × (s .args .kind ≡ 4 → LassoIn (s .args .certificate .now) (s .args .n) (s .args .m) (s .args .ms)) × (length (s .args .state .now) ≡ s .args .n) × Within 1048576 (s .args .state .now)
   needed shown entries by long =
       let a = s .args in

@@ -14,7 +14,8 @@ use Rattle.verdict.specs.StateTests.{Given-state, state-tests}
 use Rattle.judge.specs.SoundPairs.{RankSound}
 use Rattle.judge.proofs.Entered.{certificate-refused, certificate-told, kind-wanted, rank-sound-as}
 use Rattle.judge.proofs.RankKinds.{no-others}
-use Rattle.judge_state.proofs.StateLaws.{state-refused, state-done}
+use Rattle.refusal.proofs.FaultLaws.{fault-refused, fault-done}
+use Rattle.judge_state.proofs.StateLaws.{state-named}
 use Rattle.judge_bound.proofs.BoundingWays.{refused-so, at-certificate, at-state}
 use borrow.Author.Needs.{needs}
 use Rattle.judge_bound.proofs.bound_sound.Statement.{statement}
@@ -92,7 +93,7 @@ returns-2 c =
     let a = s checked .args in
     let b = bound-of (a .loopbytes .now) (a .certificate .now) (a .state .now) in
     let f = tested .state-fault in
-    let told = state-refused (given (s checked)) (f .result .number) (f .result .place) (f .ensures .0) (f .ensures .1) (c .before .if2 .taken) in
+    let told = fault-refused (f .result) (first state-tests (given (s checked))) (f .ensures) (c .before .if2 .taken) in
     c .refused2 .ensures
     ∙ refused-so b 0 (f .result .number) (f .result .place)
     (at-state b (s checked .pre .told) (sound-so checked (passed .if1 .left)) _ _
@@ -105,7 +106,7 @@ bound-ranked-requires c κs =
     let passed = tested .before in
     let checked = passed .before .before in
     let f = tested .state-fault in
-    (s checked .pre, as-ranked checked (passed .if1 .left), state-done (given (s checked)) (f .result .number) (f .result .place) (f .ensures .0) (f .ensures .1) (fits .if2 .left))
+    (s checked .pre, as-ranked checked (passed .if1 .left), fault-done (f .result) (first state-tests (given (s checked))) (f .ensures) (state-named (given (s checked))) (fits .if2 .left))
 
 refused-requires-3 : tie.Need-refused-requires-3
 refused-requires-3 c κs = search needs

@@ -1,7 +1,8 @@
 -- `judge_bound::meets_invariant` meets its contract. Assumes nothing.
 use mathlib.Core.Path.{_≡_, ap, _∙_}
 use native.Mathlib.Omega.{arith}
-use lib.IntN.{_+ℤ_}
+use lib.IntN.{pos, _+ℤ_}
+use lib.Signed.{leZ}
 use mir.Syntax.{w64}
 use mir.Val.{SFits}
 use Rattle.whole.specs.Sums.{dot}
@@ -10,7 +11,7 @@ use Rattle.judge_sums.specs.Lists.{entriesFrom}
 use Rattle.judge_sums.specs.Places.{rightAt}
 use Rattle.judge_sums.proofs.ListLaws.{state-dot}
 use Rattle.judge_lasso.specs.LassoHeld.{lasso-held, s-place}
-use Rattle.judge_bound.proofs.StepLaws.{decides-le}
+use Rattle.judge_bound.specs.BoundShown.{invariant-held}
 use mir.Facts.{toZ-ofZ}
 use borrow.Author.Needs.{needs, sfits-of}
 use Rattle.judge_bound.proofs.meets_invariant.Statement.{statement}
@@ -58,7 +59,7 @@ add-result c =
     rw (toZ-ofZ (sfits-of (reached .ok .1 .1 .0 .1)), toZ-ofZ (sfits-of (right .ok))) (total-fits c)
 
 returns : tie.Need-returns
-unfolding lasso-held rightAt
+unfolding invariant-held lasso-held rightAt
 returns c =
     let s = start (c .before .before .before) in
     let a = s .args in
@@ -68,7 +69,7 @@ returns c =
     reached .ensures .is ∙ state-dot (a .certificate .now) (s-place (a .n) (a .ms)) (a .state .now) ∙ rw (s .pre .1)
     in
     rw (toZ-ofZ {w = w64} {z = reached .result .sum} (sfits-of (reached .ok .1 .1 .0 .1)), toZ-ofZ {w = w64} {z = right .result} (sfits-of (right .ok)), toZ-ofZ (total-fits c))
-    (decides-le _ _ (ap (λ z. z +ℤ right .result) sum-is ∙ ap (λ z. dot (entriesFrom (a .certificate .now) (s-place (a .n) (a .ms)) (a .n)) (a .state .now) +ℤ z) (right .ensures .0)))
+    (ap (leZ (pos 0)) (ap (λ z. z +ℤ right .result) sum-is ∙ ap (λ z. dot (entriesFrom (a .certificate .now) (s-place (a .n) (a .ms)) (a .n)) (a .state .now) +ℤ z) (right .ensures .0)))
 
 pub meets-invariant-spec : {M : Type 1} → statement M
 meets-invariant-spec =

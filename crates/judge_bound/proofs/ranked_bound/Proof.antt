@@ -1,11 +1,11 @@
 -- `judge_bound::ranked_bound` meets its contract. Assumes nothing.
 use mathlib.Core.Path.{_≡_, sym, _∙_}
-use mathlib.Core.Bool.{true, false, false≢true}
 use mir.Facts.{toZ-ofZ}
 use mir.Syntax.{w64}
 use mir.Val.{ofZ, toZ}
 use borrow.Author.Needs.{needs}
-use borrow.Author.Tests.{not-true, not-false}
+use borrow.Author.Tests.{eq-eqb, ne-eqb, not-true, not-false}
+use Rattle.judge_bound.specs.BoundShown.{bound-shown}
 use Rattle.judge_bound.proofs.ranked_bound.Statement.{statement}
 use Rattle.judge_bound.proofs.ranked_bound.Tie as tie
 
@@ -15,8 +15,8 @@ module _ (c : tie.Else1) where
   abbrev s : tie.Start
   s = c .before .before .before
 
-  holds : s .args .shown .holds ≡ true
-  holds = not-false _ (c .if1 .left)
+  holds : s .args .shown .number ≡ 0
+  holds = c .if1 .left
 
 -- ---- once the state is spoken of: start and fall as they are passed on
 
@@ -25,10 +25,10 @@ module _ (c : tie.After-struct-told) where
   held = c .before .before .before
 
   start-fits : toZ w64 (ofZ w64 (s held .args .shown .start)) ≡ s held .args .shown .start
-  start-fits = toZ-ofZ (record { sfits = c .struct-told .given .1 .0 .1 })
+  start-fits = toZ-ofZ (record { sfits = c .struct-told .given .1 .1 .0 .1 })
 
   fall-fits : toZ w64 (ofZ w64 (s held .args .shown .fall)) ≡ s held .args .shown .fall
-  fall-fits = toZ-ofZ (record { sfits = c .struct-told .given .1 .1 .0 .1 })
+  fall-fits = toZ-ofZ (record { sfits = c .struct-told .given .1 .1 .1 .0 .1 })
 
 -- ---- the needs
 
@@ -36,9 +36,10 @@ refused-requires : tie.Need-refused-requires
 refused-requires c κs = search needs
 
 returns : tie.Need-returns
+unfolding bound-shown
 returns c =
-    let fails : c .before .before .before .before .args .shown .holds ≡ false = not-true _ (c .before .if1 .taken) in
-    record { fails = λ e. c .refused .ensures; holds-so = λ e. absurd (false≢true (sym fails ∙ e)) }
+    let shown = c .before .before .before .before .args .shown in
+    c .refused .ensures ∙ rw (ne-eqb (shown .number) 0 (c .before .if1 .taken))
 
 speaks-of-requires : tie.Need-speaks-of-requires
 speaks-of-requires c κs = let p = s c .pre in (p .2, p .3, p .4)
@@ -47,20 +48,11 @@ refused-requires-2 : tie.Need-refused-requires-2
 refused-requires-2 c κs = search needs
 
 returns-2 : tie.Need-returns-2
+unfolding bound-shown
 returns-2 c =
     let asked = c .before .before in
-    let not-spoken : asked .speaks-of .result ≡ false = not-true _ (c .before .if2 .taken) in
-    record {
-      fails = λ e. absurd (false≢true (sym e ∙ holds (asked .before)));
-      holds-so =
-          λ e.
-          record {
-            spoken = asked .speaks-of .result;
-            decided = asked .speaks-of .ensures;
-            outside = λ f. c .refused2 .ensures;
-            bounded = λ t. absurd (false≢true (sym not-spoken ∙ t));
-          };
-    }
+    let outside = sym (asked .speaks-of .ensures) ∙ not-true (asked .speaks-of .result) (c .before .if2 .taken) in
+    c .refused2 .ensures ∙ rw (eq-eqb (s (asked .before) .args .shown .number) 0 (holds (asked .before)), outside)
 
 rank-outcome-requires : tie.Need-rank-outcome-requires
 rank-outcome-requires c κs = search needs
@@ -76,24 +68,15 @@ bound-at-requires c κs =
     rw (start-fits told, fall-fits told) (p .0 (holds (held told)), p .1, p .3)
 
 returns-3 : tie.Need-returns-3
+unfolding bound-shown
 returns-3 c =
     let accepted = c .before .before .before in
     let told = accepted .before .before .before in
     let asked = told .before .before in
-    let spoken : asked .speaks-of .result ≡ true = not-false _ (told .before .if2 .left) in
+    let spoken = sym (asked .speaks-of .ensures) ∙ not-false (asked .speaks-of .result) (told .before .if2 .left) in
     let outcome = rw (start-fits told, fall-fits told) at (accepted .before .rank-outcome .ensures) in
     let steps = rw (start-fits told, fall-fits told) at (c .bound-at .ensures) in
-    record {
-      fails = λ e. absurd (false≢true (sym e ∙ holds (held told)));
-      holds-so =
-          λ e.
-          record {
-            spoken = asked .speaks-of .result;
-            decided = asked .speaks-of .ensures;
-            outside = λ f. absurd (false≢true (sym f ∙ spoken));
-            bounded = λ t. rw (accepted .accepted .ensures, outcome, steps);
-          };
-    }
+    rw (eq-eqb (s (held told) .args .shown .number) 0 (holds (held told)), spoken, accepted .accepted .ensures, outcome, steps)
 
 pub ranked-bound-spec : {M : Type 1} → statement M
 ranked-bound-spec =
