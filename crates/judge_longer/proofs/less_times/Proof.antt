@@ -8,7 +8,7 @@ use Rattle.whole.proofs.Size.{abs-add, abs-neg}
 use Rattle.whole.proofs.Solve.{v, _⊕_, _⊝_, _⊗_, solve}
 use Rattle.judge_sums.specs.Running.{Adds}
 use Rattle.judge_sums.proofs.RunningLaws.{may-add, added}
-use Rattle.judge_conditions.proofs.WhetherLaws.{minus-fits}
+use Rattle.judge_conditions.proofs.Compared.{minus-fits}
 use borrow.Author.Needs.{needs, sfits-of}
 use Rattle.judge_longer.proofs.less_times.Statement.{statement}
 use Rattle.judge_longer.proofs.less_times.Tie as tie
