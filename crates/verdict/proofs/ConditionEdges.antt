@@ -1,6 +1,6 @@
--- The edges of the conditions (02, Q-1) in one table, under one statement: `every-condition-edge`. Each number is told at its first and at its last place, and for
--- each two neighbours in the order there is a certificate that fails both: the earlier one in the last column or row, the later one in the first. Each line of a
--- ranking or a lasso is asked of judging and of bound.
+-- The edges of the conditions (02, Q-1) in one table, under one statement: `every-condition-edge`. Each number is told at its first
+-- and at its last place, and for each two neighbours in the order there is a certificate that fails both: the earlier one in the
+-- last column or row, the later one in the first. Each line of a ranking or a lasso is asked of judging and of bound.
 use mathlib.Core.Path.{_≡_, refl}
 use Prim.Native.Nat.{ℕ}
 use mathlib.Core.List.{List, [], _∷_, _++_, map}
@@ -76,8 +76,8 @@ exclusions =
     ∷ (three-rows (pos 0) (pos 1) (pos 0) (pos 0) (pos 1) (pos 0) with excludes tells 31 at 2)
     ∷ []
 
--- s is (2, 3, 5) and s0, k, k2 and h0 are 1. The stem's first row starts the invariant and the loop's first row keeps it; the second rows, if there is anything
--- in them, fail; and 0 <= -1 is a ranking
+-- s is (2, 3, 5) and s0, k, k2 and h0 are 1. The stem's first row starts the invariant and the loop's first row keeps it; the second
+-- rows, if there is anything in them, fail; and 0 <= -1 is a ranking
 unfoldable pub caught : List ℤ → List ℤ → ℤ → List ℕ
 caught A A′ b = loop-bytes 3 (row (pos 2 ∷ pos 3 ∷ pos 5 ∷ []) (− 2 ∷ − 3 ∷ − 5 ∷ []) (pos 0) ∷ row A A′ b ∷ row none none (− 1) ∷ [])
 
@@ -144,14 +144,17 @@ lassos =
     ∷ []
 
 -- 16 columns and 64 rows
+unfoldable pub sixty-four-rows : ℤ → ℤ → List ℕ
+sixty-four-rows A A′ = loop-bytes 1 (replicate 63 (row (pos 0 ∷ []) (pos 0 ∷ []) (pos 0)) ++ (row (A ∷ []) (A′ ∷ []) (pos 0) ∷ []))
+
+unfoldable pub sixteen-columns : ℤ → List ℕ
+sixteen-columns last = loop-bytes 16 (row (replicate 16 (pos 0)) (replicate 15 (pos 0) ++ (last ∷ [])) (pos 0) ∷ [])
+
 unfoldable pub largest : List Edge
 largest =
-    (judge (loop-bytes 16 (row (replicate 16 (pos 0)) (replicate 15 (pos 0) ++ (pos 1 ∷ [])) (pos 0) ∷ [])) (ranking-bytes 16 (pos 1 ∷ []) (pos 1 ∷ [])) 16
-    gives 21 at 15 of 2)
-    ∷ (judge (loop-bytes 1 (replicate 63 (row (pos 0 ∷ []) (pos 0 ∷ []) (pos 0)) ++ (row (pos 1 ∷ []) (pos 0 ∷ []) (pos 0) ∷ [])))
-    (exclusion-bytes 64 1 (pos 0 ∷ []) (pos 1 ∷ []) (pos 1 ∷ [])) 0 gives 31 at 63 of 2)
-    ∷ (judge (loop-bytes 1 (replicate 63 (row (pos 0 ∷ []) (pos 0 ∷ []) (pos 0)) ++ (row (pos 0 ∷ []) (pos 1 ∷ []) (pos 0) ∷ [])))
-    (exclusion-bytes 64 1 (pos 0 ∷ []) (pos 1 ∷ []) (pos 1 ∷ [])) 0 gives 32 at 63 of 2)
+    (judge (sixteen-columns (pos 1)) (ranking-bytes 16 (pos 1 ∷ []) (pos 1 ∷ [])) 16 gives 21 at 15 of 2)
+    ∷ (judge (sixty-four-rows (pos 1) (pos 0)) (exclusion-bytes 64 1 (pos 0 ∷ []) (pos 1 ∷ []) (pos 1 ∷ [])) 0 gives 31 at 63 of 2)
+    ∷ (judge (sixty-four-rows (pos 0) (pos 1)) (exclusion-bytes 64 1 (pos 0 ∷ []) (pos 1 ∷ []) (pos 1 ∷ [])) 0 gives 32 at 63 of 2)
     ∷ []
 
 -- what meets all conditions
@@ -168,6 +171,7 @@ condition-edges = map by-judging (rankings ++ (exclusions ++ lassos)) ++ (map by
 -- no line of the table is wrong
 pub every-condition-edge : wrong condition-edges ≡ []
 unfolding
-    computing tells is-told wrong condition-edges largest met rankings exclusions lassos ranked by-weights three-rows excludes caught lassoed
+    computing tells is-told wrong condition-edges sixty-four-rows sixteen-columns largest met rankings exclusions lassos ranked
+    by-weights three-rows excludes caught lassoed
     loop-bytes ranking-bytes exclusion-bytes lasso-bytes rows-values row-values ranking-values exclusion-values lasso-values
 every-condition-edge = refl

@@ -1,6 +1,7 @@
--- What a refusal by a condition means, for whoever made the certificate: judging tells 22 at column j, say, exactly when both records are sound, the rank list
--- has room, and of the rows and values that the bytes hold YA' = 0, and (Y - Z)A is not 0 in column j and is 0 before it (`ConditionFails`, and beneath it
--- `RankingFails`, `ExclusionFails` and `LassoFails` of crate `theory`). The same of bound. And 8 is never told. Assumes nothing.
+-- What a refusal by a condition means, for whoever made the certificate: judging tells 22 at column j, say, exactly when both
+-- records are sound, the rank list has room, and of the rows and values that the bytes hold YA' = 0, and (Y - Z)A is not 0 in column
+-- j and is 0 before it (`ConditionFails`, and beneath it `RankingFails`, `ExclusionFails` and `LassoFails` of crate `theory`). The
+-- same of bound. And 8 is never told. Assumes nothing.
 use mathlib.Core.Path.{_≡_, refl, sym, ap, _∙_}
 use mathlib.Core.Logic.{_↔_}
 use Prim.Native.Nat.{ℕ, _≤_, _<_}
@@ -102,7 +103,8 @@ module _ (j : Judging) (k p : ℕ) (high : 20 < k) where
       stage-done 0 _ _ j (room-passed j (h .room)) ∙
       stage-refused 2 _ [] j k p (told-exactly-conditions (j .records) k p .1 (h .fails))
 
-pub told-exactly-judging : (j : Judging) (number place : ℕ) → 20 < number → (judges j ≡ refusal-of 2 number place) ↔ Judging-fails j number place
+pub told-exactly-judging : (j : Judging) (number place : ℕ) → 20 < number
+    → (judges j ≡ refusal-of 2 number place) ↔ Judging-fails j number place
 unfolding judges verdict-of
 told-exactly-judging j k p high = (
   λ h. fails-when-said j k p high (said-so (said judging j) _ 2 k p (omega arith) h),
@@ -118,8 +120,9 @@ module _ (b : Bounding) (k p : ℕ) (high : 20 < k) where
       let at-loop = stage-passed 1 _ _ b 2 k p (above k sound (b .records .loop-is) high refl) h in
       let at-certificate = stage-passed 2 _ _ b 2 k p (above k sound (b .records .certificate-is) high refl) (at-loop .1) in
       let at-state = stage-passed 0 _ _ b 2 k p (above k state-tests (given-state b) high refl) (at-certificate .1) in
-      let last-silent = silent-said k ((2 says λ b. first invariant b) ∷ []) b (λ z. omega arith) (above k invariant b high refl, λ e. tt) in
-      let told = stage-tells 2 _ ((2 says λ b. first invariant b) ∷ []) b 2 k p last-silent (at-state .1) in
+      let last = (2 says λ b. first invariant b) ∷ [] in
+      let last-silent = silent-said k last b (λ z. omega arith) (above k invariant b high refl, λ e. tt) in
+      let told = stage-tells 2 _ last b 2 k p last-silent (at-state .1) in
       record {
         both-sound = record { loop-sound = at-loop .0; certificate-sound = at-certificate .0 };
         state-in = state-fits (given-state b) .0 (at-state .0);
@@ -138,8 +141,9 @@ pub told-exactly-bounding : (b : Bounding) (number place : ℕ) → 20 < number
     → (bounds b ≡ record { verdict = refusal-of 2 number place; bound = 0 }) ↔ Bounding-fails b number place
 unfolding bounds bounded verdict-of
 told-exactly-bounding b k p high = (
-  λ h. bound-fails-when-said b k p high (
-      said-so (said bounding b) _ 2 k p (omega arith) (sym (bounded-verdict (said bounding b) _ _) ∙ ap (λ (a : Bounded). a .verdict) h)),
+  λ h.
+      let verdict-told = sym (bounded-verdict (said bounding b) _ _) ∙ ap (λ (a : Bounded). a .verdict) h in
+      bound-fails-when-said b k p high (said-so (said bounding b) _ 2 k p (omega arith) verdict-told),
   λ h. rw (bound-said-when-fails b k p high h),
 )
 
