@@ -20,7 +20,7 @@ use Rattle.sheet_lines.proofs.LineLaws.{entries, nothing-line, ranking-line, la
 -- ---- the line of a verdict whose numbers are small
 
 pub record Small-refusal (number place : ℕ) : Type 0 where
-  pub one-digit : number < 10
+  pub two-digits : number < 100
   pub near : place ≤ 65_536
 
 -- at most 16 entries of at most 12 digits, a start and a fall of at most 13
@@ -51,10 +51,10 @@ rank-size r start fall small =
       signed-length 12 fall (omega (arith, small .fall-within)),
     )
 
-pub refusal-size : (number place : ℕ) → Small-refusal number place → length (line (bytes "refused" ∷ decimal number ∷ decimal place ∷ [])) ≤ 16
+pub refusal-size : (number place : ℕ) → Small-refusal number place → length (line (bytes "refused" ∷ decimal number ∷ decimal place ∷ [])) ≤ 17
 refusal-size number place small =
     rw (line-refused (decimal number) (decimal place))
-    (omega (arith, length-pair (decimal number) (decimal place), decimal-length 0 number (omega (arith, small .one-digit)), decimal-length 4 place (omega (arith, small .near))))
+    (omega (arith, length-pair (decimal number) (decimal place), decimal-length 1 number (omega (arith, small .two-digits)), decimal-length 4 place (omega (arith, small .near))))
 
 outcome-size : (o : Outcome) (number place : ℕ) (r : List ℤ) → Small-verdict o number place r → length (line (outcome-words o number place r)) ≤ 270
 outcome-size Nothing number place r small = rw (nothing-line Nothing number place r refl) (omega (arith, refusal-size number place small))

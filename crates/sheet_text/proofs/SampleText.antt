@@ -18,7 +18,7 @@ use Rattle.sheet_text.specs.Computing.{computing}
 unfoldable pub sample-input : List ℕ
 sample-input = P ++ (S1 ++ second-of-P)
 
-pub sample-text : (length sample-input ≡ 82) × (sheet-text sample-input ≡ bytes "loop 2 3\n1 rank 1 -1 from 2 down 1\n2 refused 8 0\n")
+pub sample-text : (length sample-input ≡ 82) × (sheet-text sample-input ≡ bytes "loop 2 3\n1 rank 1 -1 from 2 down 1\n2 refused 22 1\n")
 unfolding computing sample-input P S1 second-of-P Records.P Records.S1 ranking-bytes ranking-values
 sample-text = (refl, refl)
 
@@ -55,4 +55,4 @@ repeats input =
 
 pub repeats-differs : repeats sample-input ≡ sheet-text sample-input → ⊥
 unfolding computing repeats repeated sample-input P S1 second-of-P Records.P Records.S1 ranking-bytes ranking-values
-repeats-differs same = let lengths : _≡_ {A = ℕ} 61 49 = ap length same in omega arith
+repeats-differs same = let lengths : _≡_ {A = ℕ} 61 50 = ap length same in omega arith

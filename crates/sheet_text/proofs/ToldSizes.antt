@@ -1,4 +1,4 @@
--- How large the numbers of a refusal are, whatever the bytes: its number has one digit and its place lies within the record. How large those of an accepted
+-- How large the numbers of a refusal are, whatever the bytes: its number has at most two digits and its place lies within the record. How large those of an accepted
 -- rank are is `Ranking-sums-fit` of crate `verdict`. Assumes nothing.
 use mathlib.Core.Path.{_≡_}
 use Prim.Native.Nat.{ℕ, _+_, _≤_, _<_}
@@ -17,16 +17,16 @@ use Rattle.record.proofs.Lengths.{length-law}
 use Rattle.refusal.specs.Tests.{Told, done, refused, Test, _at_unless_, first}
 use Rattle.refusal.proofs.TestLaws.{either, passed, failed}
 
--- what is told has one digit and a place of at most `size`
+-- what is told has at most two digits and a place of at most `size`
 abbrev pub Small-told : ℕ → Told → Type 0
 Small-told size done = Unit {0}
-Small-told size (refused number place) = (number < 10) × (place ≤ size)
+Small-told size (refused number place) = (number < 100) × (place ≤ size)
 
 module _ {I : Type 0} (size : ℕ) where
   -- each test tells no more, if those before it hold
   abbrev pub Small-tests : List (Test I) → I → Type 0
   Small-tests [] i = Unit {0}
-  Small-tests ((number at place unless holds) ∷ tests) i = (holds i ≡ false → (number < 10) × (place i ≤ size)) × (holds i ≡ true → Small-tests tests i)
+  Small-tests ((number at place unless holds) ∷ tests) i = (holds i ≡ false → (number < 100) × (place i ≤ size)) × (holds i ≡ true → Small-tests tests i)
 
   pub first-small : (tests : List (Test I)) (i : I) → Small-tests tests i → Small-told size (first tests i)
   unfolding first

@@ -23,11 +23,13 @@ use Rattle.theory.specs.Loops.{Loop}
 use Rattle.theory.specs.Rankings as Rankings
 use Rattle.verdict.specs.Contents.{loop-in}
 use Rattle.verdict.specs.Judging.{Judging, rank-room, judging, judges, rank-after, judge-of, certificates-judged}
-use Rattle.verdict.specs.Pairs.{loop-record, certificate-record, kind-of, variables-of, folded, conditions}
+use Rattle.verdict.specs.Pairs.{loop-record, certificate-record, kind-of, variables-of, conditions}
 use Rattle.verdict.specs.Stages.{Said, agreed, refusal, Stage, _says_, said, verdict-of}
 use Rattle.verdict.specs.declared.Outcome.the-variants.{Ranking}
 use Rattle.verdict.proofs.Accepted.{accepts-agrees, ranking-answers, lasso-answers, exclusion-answers}
+use Rattle.verdict.proofs.ConditionLaws.{told-exactly-conditions, condition-told}
 use Rattle.verdict.proofs.Demands.{same-counts}
+use Rattle.verdict.proofs.PartsInRange.{loop-parts}
 use Rattle.verdict.proofs.StageLaws.{by-told, stage-done, stage-refused}
 use Rattle.verdict.proofs.SumsFit.{Ranking-sums-fit, rank-length}
 use Rattle.verdict.proofs.SumsFitInBytes.{loop-small, ranking-sums-fit, lasso-sums-fit-in}
@@ -60,16 +62,11 @@ module _ {I : Type 0} where
       (λ k p e. rw (stage-refused about told stages i k p e) (refused-small k p (rw e at (small .0))))
     where
       refused-small : (k p : ℕ) → Small-told 65_536 (refused k p) → Small-refusal k p
-      refused-small k p h = record { one-digit = h .0; near = h .1 }
+      refused-small k p h = record { two-digits = h .0; near = h .1 }
 
 told-more : (size : ℕ) (t : Told) → size ≤ 65_536 → Small-told size t → Small-told 65_536 t
 told-more size done more small = tt
 told-more size (refused k p) more small = (small .0, omega (arith, small .1))
-
-folded-small : (t : Told) → Small-told 65_536 (folded t)
-unfolding folded
-folded-small done = tt
-folded-small (refused k p) = (omega arith, omega arith)
 
 -- ---- the records of a judge
 
@@ -100,6 +97,17 @@ module _ (l c : List ℕ) (loop-sound : first sound (loop-record l) ≡ done) (n
   abbrev r : Reader
   r = certificate-record certificates-judged (loop-record l) c
 
+  -- a condition's number is at most 46, and its place a column or a row of the loop
+  conditions-small : Small-told 65_536 (conditions (j .records))
+  unfolding judge-of loop-in variables-in rows-in
+  conditions-small =
+      by-told (conditions (j .records)) (λ e. rw e tt)
+      (λ k p e.
+      let told = condition-told 64 (kind-of (j .records)) (j .records) k p (omega arith) (omega (arith, few-variables l loop-sound))
+      (rw (loop-parts (loop-record l) (loop-is-sound l loop-sound) (loop-kind l loop-sound) .counted) (few-rows l loop-sound))
+      (told-exactly-conditions (j .records) k p .0 e) in
+      rw e (omega (arith, told .no-more), omega (arith, told .place-is)))
+
   said-is-small : Small-said (said judging j)
   unfolding judging judge-of rank-room conditions certificate-record variables-of variables-in
   said-is-small =
@@ -109,7 +117,7 @@ module _ (l c : List ℕ) (loop-sound : first sound (loop-record l) ≡ done) (n
           told-more (length c) (first sound r) near (sound-told r (wanted-known _)),
           (
             first-small 65_536 rank-room j (λ e. (omega arith, omega (arith, few-variables l loop-sound)), λ e. tt),
-            (folded-small _, tt),
+            (conditions-small, tt),
           ),
         ),
       )
@@ -206,7 +214,7 @@ judged-size done l rest e short rest-short =
     ))
 judged-size (refused number place) l rest e short rest-short =
     let small : Small-told 65_536 (refused number place) = rw e at (loop-told l short) in
-    rw line-loop (omega (arith, refusal-size number place (record { one-digit = small .0; near = small .1 })))
+    rw line-loop (omega (arith, refusal-size number place (record { two-digits = small .0; near = small .1 })))
 
 -- no text is longer than the worst case of its input's length
 pub never-longer : (input : List ℕ) → length (sheet-text input) ≤ worst (length input)

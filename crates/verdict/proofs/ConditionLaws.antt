@@ -1,5 +1,5 @@
--- What the conditions of a pair of records tell: exactly the first that fails, with a number from 21 to 46 and a column or a row of the loop. So 0 is told only
--- when all of them hold, and no number of another test is told by them.
+-- What the conditions of a pair of records tell: exactly the first that fails, with a number from 21 to 46 and a column or a row of
+-- the loop. So 0 is told only when all of them hold, and no number of another test is told by them.
 use mathlib.Core.Path.{_≡_, refl, sym, ap, _∙_}
 use mathlib.Core.Logic.{_↔_}
 use Prim.Native.Nat.{ℕ, _+_, _≤_, _<_}
@@ -48,7 +48,8 @@ claim-told-exactly exclusion p number place = told-exactly-exclusion (loop-in (p
 claim-told-exactly lasso p number place = told-exactly-lasso (loop-in (p .loop-is)) (lasso-in (p .certificate-is)) number place
 claim-told-exactly other p number place = (λ h. never (sym h), λ h. absurd h)
 
-pub told-exactly-conditions : (p : Pair) (number place : ℕ) → (conditions p ≡ refused number place) ↔ ConditionFails (kind-of p) p number place
+pub told-exactly-conditions : (p : Pair) (number place : ℕ)
+    → (conditions p ≡ refused number place) ↔ ConditionFails (kind-of p) p number place
 unfolding conditions
 told-exactly-conditions p number place = claim-told-exactly (kind-of p) p number place
 
@@ -59,28 +60,34 @@ pub record Condition-told (most number place : ℕ) : Type 0 where
   pub no-more : number ≤ 46
   pub place-is : place < most
 
-ranking-told : (most : ℕ) (l : Loop) (c : Rankings.Ranking) (number place : ℕ) → 0 < most → l .variables ≤ most → RankingFails l c number place
-    → Condition-told most number place
-ranking-told most l c number place some few (fails-21 f) = record { beyond-20 = omega arith; no-more = omega arith; place-is = omega (arith, f .below) }
-ranking-told most l c number place some few (fails-22 g f) = record { beyond-20 = omega arith; no-more = omega arith; place-is = omega (arith, f .below) }
-ranking-told most l c number place some few (fails-23 g h f) =
-    record { beyond-20 = omega arith; no-more = omega arith; place-is = omega (arith, f .below) }
-ranking-told most l c number place some few (fails-24 g h i f) = record { beyond-20 = omega arith; no-more = omega arith; place-is = some }
+-- at the first place of n that fails, and at a right side
+at-place : {most n k j : ℕ} {P : ℕ → Type 0} → 20 < k → k ≤ 46 → n ≤ most → FirstFailing n P j → Condition-told most k j
+at-place beyond no-more few f = record { beyond-20 = beyond; no-more = no-more; place-is = omega (arith, f .below) }
 
-exclusion-told : (most : ℕ) (l : Loop) (c : Exclusions.Exclusion) (number place : ℕ) → length (l .rows) ≤ most → ExclusionFails l c number place
-    → Condition-told most number place
-exclusion-told most l c number place few (fails-31 f) = record { beyond-20 = omega arith; no-more = omega arith; place-is = omega (arith, f .below) }
-exclusion-told most l c number place few (fails-32 g f) = record { beyond-20 = omega arith; no-more = omega arith; place-is = omega (arith, f .below) }
+at-right : {most k : ℕ} → 20 < k → k ≤ 46 → 0 < most → Condition-told most k 0
+at-right beyond no-more some = record { beyond-20 = beyond; no-more = no-more; place-is = some }
 
-lasso-told : (most : ℕ) (l : Loop) (c : Lassos.Lasso) (number place : ℕ) → 0 < most → l .variables ≤ most → LassoFails l c number place
-    → Condition-told most number place
-lasso-told most l c number place some few (fails-41 f) = record { beyond-20 = omega arith; no-more = omega arith; place-is = omega (arith, f .below) }
-lasso-told most l c number place some few (fails-42 g f) = record { beyond-20 = omega arith; no-more = omega arith; place-is = omega (arith, f .below) }
-lasso-told most l c number place some few (fails-43 g h f) = record { beyond-20 = omega arith; no-more = omega arith; place-is = some }
-lasso-told most l c number place some few (fails-44 s f) = record { beyond-20 = omega arith; no-more = omega arith; place-is = omega (arith, f .below) }
-lasso-told most l c number place some few (fails-45 s g f) = record { beyond-20 = omega arith; no-more = omega arith; place-is = omega (arith, f .below) }
-lasso-told most l c number place some few (fails-46 s g h f) = record { beyond-20 = omega arith; no-more = omega arith; place-is = some }
-lasso-told most l c number place some few (fails-ranked s h f) = ranking-told most (Lassos.longer l c) (c .ranking) number place some few f
+ranking-told : (most : ℕ) (l : Loop) (c : Rankings.Ranking) (k p : ℕ) → 0 < most → l .variables ≤ most → RankingFails l c k p
+    → Condition-told most k p
+ranking-told most l c k p some few (fails-21 f) = at-place (omega arith) (omega arith) few f
+ranking-told most l c k p some few (fails-22 g f) = at-place (omega arith) (omega arith) few f
+ranking-told most l c k p some few (fails-23 g h f) = at-place (omega arith) (omega arith) few f
+ranking-told most l c k p some few (fails-24 g h i f) = at-right (omega arith) (omega arith) some
+
+exclusion-told : (most : ℕ) (l : Loop) (c : Exclusions.Exclusion) (k p : ℕ) → length (l .rows) ≤ most → ExclusionFails l c k p
+    → Condition-told most k p
+exclusion-told most l c k p few (fails-31 f) = at-place (omega arith) (omega arith) few f
+exclusion-told most l c k p few (fails-32 g f) = at-place (omega arith) (omega arith) few f
+
+lasso-told : (most : ℕ) (l : Loop) (c : Lassos.Lasso) (k p : ℕ) → 0 < most → l .variables ≤ most → LassoFails l c k p
+    → Condition-told most k p
+lasso-told most l c k p some few (fails-41 f) = at-place (omega arith) (omega arith) few f
+lasso-told most l c k p some few (fails-42 g f) = at-place (omega arith) (omega arith) few f
+lasso-told most l c k p some few (fails-43 g h f) = at-right (omega arith) (omega arith) some
+lasso-told most l c k p some few (fails-44 s f) = at-place (omega arith) (omega arith) few f
+lasso-told most l c k p some few (fails-45 s g f) = at-place (omega arith) (omega arith) few f
+lasso-told most l c k p some few (fails-46 s g h f) = at-right (omega arith) (omega arith) some
+lasso-told most l c k p some few (fails-ranked s h f) = ranking-told most (Lassos.longer l c) (c .ranking) k p some few f
 
 -- of a loop of at most so many variables and rows
 pub condition-told : (most : ℕ) (k : Kind) (p : Pair) (number place : ℕ) → 0 < most → loop-in (p .loop-is) .variables ≤ most

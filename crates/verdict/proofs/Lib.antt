@@ -15,5 +15,7 @@ pub mod ExclusionSumsFit
 pub mod LassoSumsFit
 pub mod SumsFitInBytes
 pub mod VerdictEdges
+pub mod ConditionEdges
 pub mod WrongJudges
 pub mod UnlikeSamples
+pub mod ToldExactly

@@ -84,3 +84,23 @@ module _ {I : Type 0} where
       by-told (told i)
       (λ e. silent-said k stages i some (silent .1 e) (ap number-said (sym (stage-done about told stages i e)) ∙ h))
       (λ n p e. silent .0 (ap number e ∙ ap number-said (sym (stage-refused about told stages i n p e)) ∙ h))
+
+  -- a refusal comes from behind a stage that does not tell its number
+  pub stage-passed : (about : ℕ) (told : I → Told) (stages : List (Stage I)) (i : I) (a k p : ℕ) → (number (told i) ≡ k → ⊥)
+      → said ((about says told) ∷ stages) i ≡ refusal a k p → (told i ≡ done) × (said stages i ≡ refusal a k p)
+  unfolding number
+  stage-passed about told stages i a k p silent h =
+      by-told (told i)
+      (λ e. (e, sym (stage-done about told stages i e) ∙ h))
+      (λ n q e. absurd (silent (ap number e ∙ ap number-said (sym (stage-refused about told stages i n q e) ∙ h))))
+
+  -- and from a stage behind which none tells it
+  pub stage-tells : (about : ℕ) (told : I → Told) (stages : List (Stage I)) (i : I) (a k p : ℕ) → (number-said (said stages i) ≡ k → ⊥)
+      → said ((about says told) ∷ stages) i ≡ refusal a k p → told i ≡ refused k p
+  stage-tells about told stages i a k p silent h =
+      by-told (told i)
+      (λ e. absurd (silent (ap number-said (sym (stage-done about told stages i e) ∙ h))))
+      (λ n q e. e ∙ same-refusal (sym (stage-refused about told stages i n q e) ∙ h))
+    where
+      same-refusal : {b n q : ℕ} → refusal b n q ≡ refusal a k p → refused n q ≡ refused k p
+      same-refusal e = cc

@@ -1,5 +1,5 @@
--- 01, "Numbers of the verdict": what the bound call answers, on every pair of byte strings and every state.
--- "Bound: loop, certificate (kind 3 gives 4), 10, 9, 8, 11" is the list `bounding`; by 02, Q-1, the conditions' own numbers take the place of 8.
+-- 01, "Numbers of the verdict": what the bound call answers, on every pair of byte strings and every state. "Bound: loop,
+-- certificate (kind 3 gives 4), 10, 9, 8, 11" is the list `bounding`; by 02, Q-1, the conditions' own numbers take the place of 8.
 use Prim.Native.Nat.{ℕ}
 use mathlib.Core.Bool.{Bool, true, false}
 use mathlib.Core.List.{List, [], _∷_}

@@ -1,6 +1,6 @@
--- 01, "Numbers of the verdict": what judging answers, and what the rank list holds afterwards, on every pair of byte strings and every
--- list. "Judging: the loop record, then the certificate, then 7 (kinds 2 and 4 only), then 8" is the list `judging`; by 02, Q-1, 21 to 24, 31,
--- 32 and 41 to 46 take the place of 8.
+-- 01, "Numbers of the verdict": what judging answers, and what the rank list holds afterwards, on every pair of byte strings and
+-- every list. "Judging: the loop record, then the certificate, then 7 (kinds 2 and 4 only), then 8" is the list `judging`; by 02,
+-- Q-1, 21 to 24, 31, 32 and 41 to 46 take the place of 8.
 use Prim.Native.Nat.{ℕ}
 use mathlib.Core.Bool.{Bool, true, not, _||_}
 use mathlib.Core.List.{List, [], _∷_, _++_}
