@@ -28,6 +28,8 @@ told =
     (rankingTold P (ranking (1 ∷ 0 ∷ 0 ∷ []) (0 ∷ 0 ∷ 1 ∷ [])), refused 22 0) ∷
     (rankingTold P (ranking (1 ∷ 0 ∷ 0 ∷ []) (1 ∷ 0 ∷ 0 ∷ [])), refused 23 0) ∷
     (rankingTold (over 2 (row (pos 0 ∷ pos 1 ∷ []) (pos 0 ∷ pos 0 ∷ []) (negsuc 0) ∷ [])) (ranking (1 ∷ []) (1 ∷ [])), refused 23 1) ∷
+    -- 21 in column 1 and 22 in column 0
+    (rankingTold P (ranking (1 ∷ 0 ∷ 1 ∷ []) (0 ∷ 0 ∷ 1 ∷ [])), refused 21 1) ∷
     -- S12, S13, S14
     (rankingTold (over 1 []) (ranking [] []), refused 24 0) ∷
     (exclusionTold (over 1 []) (excluding 1 (pos 0) (pos 0) (pos 0)), done) ∷

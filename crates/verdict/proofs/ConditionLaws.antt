@@ -8,6 +8,7 @@ use lib.ListN.{length}
 use Rattle.record.specs.Layouts.{Kind, loop, ranking, exclusion, lasso, other}
 use Rattle.refusal.specs.Places.{FirstFailing}
 use Rattle.refusal.specs.Tests.{Told, done, refused, number}
+use Rattle.refusal.proofs.FaultLaws.{Named}
 use Rattle.refusal.proofs.TestLaws.{never}
 use Rattle.theory.specs.Conditions.{rankingTold, exclusionTold, lassoTold}
 use Rattle.theory.specs.Exclusions as Exclusions
@@ -40,7 +41,7 @@ module _ (p : Pair) where
 
 -- ---- exactly the first that fails
 
-claim-told-exactly : (k : Kind) (p : Pair) (number place : ℕ) → (claim k p .told ≡ refused number place) ↔ ConditionFails k p number place
+pub claim-told-exactly : (k : Kind) (p : Pair) (number place : ℕ) → (claim k p .told ≡ refused number place) ↔ ConditionFails k p number place
 unfolding claim ranking-claim exclusion-claim lasso-claim no-claim
 claim-told-exactly loop p number place = (λ h. never (sym h), λ h. absurd h)
 claim-told-exactly ranking p number place = told-exactly-ranking (loop-in (p .loop-is)) (ranking-in (p .certificate-is)) number place
@@ -108,18 +109,27 @@ condition-number k p number place h =
 
 -- ---- so 0 is told only when the conditions hold, and no other number up to 20
 
+module _ (k : Kind) (p : Pair) where
+  number-told : (number place : ℕ) → claim k p .told ≡ refused number place → (20 < number) × (number ≤ 46)
+  number-told number place e = condition-number k p number place (claim-told-exactly k p number place .0 e)
+
+  pub claim-named : Named (claim k p .told)
+  unfolding number
+  claim-named h =
+      by-told (claim k p .told) (λ e. e)
+      (λ n place e. absurd (let zero-told : n ≡ 0 = sym (ap number e) ∙ h in omega (arith, number-told n place e .0)))
+
+  pub claim-silent : (n : ℕ) → (0 ≡ n → ⊥) → n ≤ 20 → number (claim k p .told) ≡ n → ⊥
+  unfolding number
+  claim-silent n some low h =
+      by-told (claim k p .told) (λ e. some (sym (ap number e) ∙ h))
+      (λ told place e. let same : told ≡ n = sym (ap number e) ∙ h in omega (arith, number-told told place e .0))
+
 module _ (p : Pair) where
-  number-told : (k place : ℕ) → conditions p ≡ refused k place → (20 < k) × (k ≤ 46)
-  number-told k place e = condition-number (kind-of p) p k place (told-exactly-conditions p k place .0 e)
+  pub conditions-named : Named (conditions p)
+  unfolding conditions
+  conditions-named = claim-named (kind-of p) p
 
-  pub conditions-named : number (conditions p) ≡ 0 → conditions p ≡ done
-  unfolding number
-  conditions-named h =
-      by-told (conditions p) (λ e. e)
-      (λ k place e. absurd (let zero-told : k ≡ 0 = sym (ap number e) ∙ h in omega (arith, number-told k place e .0)))
-
-  pub conditions-silent : (k : ℕ) → (0 ≡ k → ⊥) → k ≤ 20 → number (conditions p) ≡ k → ⊥
-  unfolding number
-  conditions-silent k some low h =
-      by-told (conditions p) (λ e. some (sym (ap number e) ∙ h))
-      (λ n place e. let same : n ≡ k = sym (ap number e) ∙ h in omega (arith, number-told n place e .0))
+  pub conditions-silent : (n : ℕ) → (0 ≡ n → ⊥) → n ≤ 20 → number (conditions p) ≡ n → ⊥
+  unfolding conditions
+  conditions-silent = claim-silent (kind-of p) p

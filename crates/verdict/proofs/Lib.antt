@@ -2,6 +2,7 @@ pub mod ConditionLaws
 pub mod Accepted
 pub mod StatesInRange
 pub mod BoundAnswers
+pub mod ClaimAnswers
 pub mod Demands
 pub mod InValues
 pub mod OutcomeNumbers

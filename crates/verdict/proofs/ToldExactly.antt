@@ -25,9 +25,10 @@ use Rattle.verdict.specs.declared.Outcome.{Outcome}
 use Rattle.verdict.specs.declared.Verdict.{Verdict}
 use Rattle.verdict.proofs.Accepted.{Both-sound, room-there, no-room-needed}
 use Rattle.verdict.proofs.BoundAnswers.{number-bounded}
-use Rattle.verdict.proofs.ConditionLaws.{told-exactly-conditions, conditions-silent}
+use Rattle.verdict.proofs.ClaimAnswers.{judged-fails, bounded-fails}
+use Rattle.verdict.proofs.ConditionLaws.{claim-told-exactly, told-exactly-conditions, conditions-silent}
 use Rattle.verdict.proofs.StatesInRange.{State-in, state-fits}
-use Rattle.verdict.proofs.StageLaws.{number-said, stage-done, stage-refused, stage-passed, stage-tells, silent-said}
+use Rattle.verdict.proofs.StageLaws.{number-said, stage-passed, stage-tells, silent-said}
 
 -- what a refusal of judging by a condition says of the call
 pub record Judging-fails (j : Judging) (number place : ℕ) : Type 0 where
@@ -95,20 +96,14 @@ module _ (j : Judging) (k p : ℕ) (high : 20 < k) where
         fails = told-exactly-conditions (j .records) k p .0 told;
       }
 
-  said-when-fails : Judging-fails j k p → said judging j ≡ refusal 2 k p
-  unfolding judging
-  said-when-fails h =
-      stage-done 1 _ _ j (h .both-sound .loop-sound) ∙
-      stage-done 2 _ _ j (h .both-sound .certificate-sound) ∙
-      stage-done 0 _ _ j (room-passed j (h .room)) ∙
-      stage-refused 2 _ [] j k p (told-exactly-conditions (j .records) k p .1 (h .fails))
-
 pub told-exactly-judging : (j : Judging) (number place : ℕ) → 20 < number
     → (judges j ≡ refusal-of 2 number place) ↔ Judging-fails j number place
-unfolding judges verdict-of
+unfolding judges
 told-exactly-judging j k p high = (
   λ h. fails-when-said j k p high (said-so (said judging j) _ 2 k p (omega arith) h),
-  λ h. rw (said-when-fails j k p high h),
+  λ h.
+      let told = claim-told-exactly (kind-of (j .records)) (j .records) k p .1 (h .fails) in
+      judged-fails j [] _ (h .both-sound) refl (room-passed j (h .room)) k p told .0,
 )
 
 -- ---- bound
@@ -129,22 +124,16 @@ module _ (b : Bounding) (k p : ℕ) (high : 20 < k) where
         fails = told-exactly-conditions (b .records) k p .0 told;
       }
 
-  bound-said-when-fails : Bounding-fails b k p → said bounding b ≡ refusal 2 k p
-  unfolding bounding
-  bound-said-when-fails h =
-      stage-done 1 _ _ b (h .both-sound .loop-sound) ∙
-      stage-done 2 _ _ b (h .both-sound .certificate-sound) ∙
-      stage-done 0 _ _ b (state-fits (given-state b) .1 (h .state-in)) ∙
-      stage-refused 2 _ _ b k p (told-exactly-conditions (b .records) k p .1 (h .fails))
-
 pub told-exactly-bounding : (b : Bounding) (number place : ℕ) → 20 < number
     → (bounds b ≡ record { verdict = refusal-of 2 number place; bound = 0 }) ↔ Bounding-fails b number place
-unfolding bounds bounded verdict-of
+unfolding bounds
 told-exactly-bounding b k p high = (
   λ h.
       let verdict-told = sym (bounded-verdict (said bounding b) _ _) ∙ ap (λ (a : Bounded). a .verdict) h in
       bound-fails-when-said b k p high (said-so (said bounding b) _ 2 k p (omega arith) verdict-told),
-  λ h. rw (bound-said-when-fails b k p high h),
+  λ h.
+      let told = claim-told-exactly (kind-of (b .records)) (b .records) k p .1 (h .fails) in
+      bounded-fails b _ (h .both-sound) refl (state-fits (given-state b) .1 (h .state-in)) k p told,
 )
 
 -- ---- 8 is never told
