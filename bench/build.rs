@@ -1,5 +1,7 @@
-//! Compiles the one-pass C implementation with `cc -O3` for the baseline processor and links it.
+//! Compiles the one-pass C implementation with `cc -O3` for the baseline processor and links it. It stops on a machine
+//! that is not x86-64: the archive would run under an emulator there, and its times would say nothing.
 
+use std::env;
 use std::path::Path;
 use std::process::{exit, Command};
 
@@ -19,9 +21,13 @@ fn run(command: &mut Command) {
 }
 
 fn main() {
+    if env::var("CARGO_CFG_TARGET_ARCH").as_deref() != Ok("x86_64") {
+        eprintln!("the archive is for x86-64; its times under an emulator would say nothing");
+        exit(1);
+    }
     println!("cargo:rerun-if-changed=c/onepass.c");
     println!("cargo:rerun-if-changed=../include/cushiedoo.h");
-    let out = std::env::var("OUT_DIR").expect("cargo sets OUT_DIR");
+    let out = env::var("OUT_DIR").expect("cargo sets OUT_DIR");
     let object = Path::new(&out).join("onepass.o");
     let archive = Path::new(&out).join("libonepass.a");
     let warnings = ["-std=c99", "-Wall", "-Wextra", "-Werror"];

@@ -5,7 +5,8 @@
 #
 # PROGRAM is the repository's target/bin/sheet unless it is named. For each sample one line is printed, which starts with
 # `passed ` or `failed `; the exit is not 0 if one failed. A sample NAME is an input, NAME.hex (bytes as digits) or NAME.in.sh
-# (a script that writes the bytes), and a text, NAME.out or NAME.out.sh (a script that writes it).
+# (a script that writes the bytes), and a text, NAME.out or NAME.out.sh (a script that writes it). x86/run starts the program,
+# so the machine need not be x86-64.
 set -u
 folder=$(cd "$(dirname "$0")" && pwd) || exit 1
 program=${1:-$folder/../target/bin/sheet}
@@ -19,7 +20,7 @@ text_of() { if [ -f "$folder/$1.out" ]; then cat "$folder/$1.out"; else "$folder
 sample() { # INPUT NAME
   input_of "$1" >"$scratch/in" || return 1
   text_of "$2" >"$scratch/out" || return 1
-  "$program" <"$scratch/in" >"$scratch/written" || return 1
+  "$folder/../x86/run" "$program" <"$scratch/in" >"$scratch/written" || return 1
   cmp "$scratch/written" "$scratch/out"
 }
 

@@ -6,7 +6,8 @@
 #
 # FOLDER is the one that holds the programs, the repository's target/bin unless it is named. For each case one line is printed, which starts with
 # `passed ` or `failed `; the exit is not 0 if one failed. A case NAME must write streams/NAME.err to standard error, and to standard output the text
-# that its line below names: a sample's, or streams/NAME.out, or nothing.
+# that its line below names: a sample's, or streams/NAME.out, or nothing. The programs are started by x86/run, so every case runs on a machine that is
+# not x86-64 as well, under an emulator that hands the streams, signals and limits of the case on.
 set -u
 folder=$(cd "$(dirname "$0")" && pwd) || exit 1
 programs=$(cd "${1:-$folder/../target/bin}" && pwd) || exit 1
@@ -14,8 +15,9 @@ scratch=$(mktemp -d) || exit 1
 trap 'rm -rf "$scratch"' EXIT
 failed=0
 
-# The program, for at most 30 seconds: a case in which it waits for ever fails.
-sheet() { timeout 30 "$programs/sheet" "$@"; }
+# A program, for at most 30 seconds: a case in which it waits for ever fails.
+program() { timeout 30 "$folder/../x86/run" "$programs/$1" "${@:2}"; }
+sheet() { program sheet "$@"; }
 
 text_of() { # WHICH NAME
   case $1 in
@@ -65,11 +67,11 @@ slow_bytes() {
   done | sheet
 }
 
-# a pipe that does not wait, empty at first and once more in the middle of a record
+# a pipe that does not wait, empty at first and once more in the middle of a record; half a second, since a program may take a tenth to start
 empty_pipe() {
   exec 4<>"$scratch/pipe" 3<"$scratch/pipe"
   dd iflag=nonblock count=0 status=none <&3
-  { sleep 0.2; head -c 50 "$scratch/p"; sleep 0.2; tail -c +51 "$scratch/p"; } >&4 3<&- &
+  { sleep 0.5; head -c 50 "$scratch/p"; sleep 0.5; tail -c +51 "$scratch/p"; } >&4 3<&- &
   exec 4>&-
   sheet <&3
   exec 3<&-
@@ -79,7 +81,7 @@ empty_pipe() {
 full_pipe() {
   exec 5<>"$scratch/back" 4<"$scratch/back" 3>"$scratch/back" 5>&-
   dd oflag=nonblock count=0 status=none >&3 </dev/null
-  { sleep 0.2; timeout 30 cat; } <&4 3>&- >"$scratch/taken" &
+  { sleep 0.5; timeout 30 cat; } <&4 3>&- >"$scratch/taken" &
   exec 4<&-
   sheet <"$scratch/longest" >&3
   exec 3>&-
@@ -99,7 +101,7 @@ full_disk() { sheet <"$scratch/longest" >/dev/full; }
 closed_output() { sheet <"$scratch/p" >&-; }
 no_reader() { (trap '' PIPE && sheet <"$scratch/longest" | true); }
 file_size_limit() { (trap '' XFSZ && ulimit -f 8 && sheet <"$scratch/longest"); }
-other_program() { timeout 30 "$programs/cases" <"$folder/../crates/cases/stdin" >/dev/full; }
+other_program() { program cases <"$folder/../crates/cases/stdin" >/dev/full; }
 
 # ---- arguments, with an input that never comes
 

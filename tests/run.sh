@@ -32,6 +32,16 @@ scratch=$(mktemp -d)
 trap 'rm -rf "$scratch"' EXIT
 failed=0
 
+# The archive is for x86-64. On another machine what hands each call on to it, under an emulator, is linked for it.
+if [ "$(uname -m)" != x86_64 ]; then
+  if ! x86/bridge "$CUSHIEDOO_LIB_DIR" target/x86 >"$scratch/log" 2>&1; then
+    echo "failed bridge to the archive"
+    cat "$scratch/log"
+    exit 1
+  fi
+  CUSHIEDOO_LIB_DIR=$root/target/x86
+fi
+
 # Runs a part's function and prints its line; with `show`, the last lines that it printed as well.
 part() {
   local name=$1 show=$2

@@ -1,5 +1,5 @@
 //! Links the archive `librip.a`, which `rt staticlib rip` makes in the repository's `target/staticlib`. Another folder
-//! is named by the environment variable `CUSHIEDOO_LIB_DIR`.
+//! is named by the environment variable `CUSHIEDOO_LIB_DIR`; on a machine that is not x86-64, one that `x86/bridge` made.
 
 use std::path::PathBuf;
 use std::{env, process};

@@ -8,7 +8,7 @@
  *     cc -std=c99 -Wall -Wextra -Werror -Iinclude examples/c/judge.c target/staticlib/librip.a -o judge
  *     ./judge
  *
- * It prints what stands in judge.expected.
+ * It prints what stands in judge.expected. The archive links on x86-64; README says what to link on other machines.
  */
 #include <inttypes.h>
 #include <stdio.h>
