@@ -146,16 +146,28 @@ def total(weights, numbers):
     return sum(y * e for y, e in zip(weights, numbers))
 
 
+def each(number, count, holds):
+    """A condition in each of so many columns or rows: the first place where it fails is told."""
+    for place in range(count):
+        if not holds(place):
+            raise Refused(number, place, 2)
+
+
+def right_sides(number, holds):
+    each(number, 1, lambda _: holds)
+
+
+def column(rows, which, j):
+    return [row[which][j] for row in rows]
+
+
 def ranked(n, rows, Y, Z):
-    A = [[r[0][j] for r in rows] for j in range(n)]
-    then = [[r[1][j] for r in rows] for j in range(n)]
-    b = [r[2] for r in rows]
-    for j in range(n):
-        if total(Y, then[j]) != 0 or total(Y, A[j]) != total(Z, A[j]) or total(Z, A[j]) + total(Z, then[j]) != 0:
-            raise Refused(8, 0, 2)
-    if total(Z, b) >= 0:
-        raise Refused(8, 0, 2)
-    return [total(Z, then[j]) for j in range(n)], -total(Y, b), -total(Z, b)
+    b = [row[2] for row in rows]
+    each(21, n, lambda j: total(Y, column(rows, 1, j)) == 0)
+    each(22, n, lambda j: total(Y, column(rows, 0, j)) == total(Z, column(rows, 0, j)))
+    each(23, n, lambda j: total(Z, column(rows, 0, j)) + total(Z, column(rows, 1, j)) == 0)
+    right_sides(24, total(Z, b) < 0)
+    return [total(Z, column(rows, 1, j)) for j in range(n)], -total(Y, b), -total(Z, b)
 
 
 def judge(loop, certificate):
@@ -172,9 +184,8 @@ def judge(loop, certificate):
             V, at = take(certificate, at, "direction", n, 2)
             W, at = take(certificate, at, "direction", n, 2)
             before = [w - v for w, v in zip(W, V)]
-            for now, then, right in rows:
-                if total(now, V) + total(then, U) > 0 or total(now, before) + total(then, W) > q * right:
-                    raise Refused(8, 0, 2)
+            each(31, m, lambda i: total(rows[i][0], V) + total(rows[i][1], U) <= 0)
+            each(32, m, lambda i: total(rows[i][0], before) + total(rows[i][1], W) <= q * rows[i][2])
             return ("excluded", "whole" if q == 1 else "fractions")
         ms = number(certificate, 6, "u16")
         if ms > 64:
@@ -191,13 +202,12 @@ def judge(loop, certificate):
         (h0,), at = take(certificate, at, "multiplier", 1, 2)
         Y, at = take(certificate, at, "multiplier", m + 1, 2)
         Z, at = take(certificate, at, "multiplier", m + 1, 2)
-        for j in range(n):
-            if total(T, [r[0][j] for r in stem]) != 0 or total(T, [r[1][j] for r in stem]) != -k * s[j]:
-                raise Refused(8, 0, 2)
-            if total(H, [r[0][j] for r in rows]) != h0 * s[j] or total(H, [r[1][j] for r in rows]) != -k2 * s[j]:
-                raise Refused(8, 0, 2)
-        if total(T, [r[2] for r in stem]) > k * s0 or total(H, [r[2] for r in rows]) + h0 * s0 > k2 * s0:
-            raise Refused(8, 0, 2)
+        each(41, n, lambda j: total(T, column(stem, 0, j)) == 0)
+        each(42, n, lambda j: total(T, column(stem, 1, j)) == -k * s[j])
+        right_sides(43, total(T, [r[2] for r in stem]) <= k * s0)
+        each(44, n, lambda j: total(H, column(rows, 0, j)) - h0 * s[j] == 0)
+        each(45, n, lambda j: total(H, column(rows, 1, j)) == -k2 * s[j])
+        right_sides(46, total(H, [r[2] for r in rows]) + h0 * s0 <= k2 * s0)
         return ("lasso",) + ranked(n, rows + [([-z for z in s], [0] * n, s0)], Y, Z)
     except Refused as refusal:
         return ("refused",) + refusal.args
