@@ -26,11 +26,30 @@
  *                                                                                  an argument for kinds 2 to 4
  *   CUSHIEDOO_VALUE    6  value out of range, the first in layout order            its first byte
  *   CUSHIEDOO_ROOM     7  room too small                                           room needed
- *   CUSHIEDOO_FAILS    8  a condition fails                                        0
+ *   CUSHIEDOO_FAILS    8  no longer given: 21 to 46 say which condition fails
  *   CUSHIEDOO_STATE    9  state entry out of range, the first                      its index, from 0
  *   CUSHIEDOO_ENTRIES 10  state doesn't have n entries                             number of entries
  *   CUSHIEDOO_OUTSIDE 11  lasso state outside the invariant                        0
  *   CUSHIEDOO_LIST    12  value list of the wrong length                           length needed (1 if ms is absent)
+ *
+ * Conditions. A certificate that fails one is refused with the condition's number. Columns and rows count from 0; a
+ * column stands for a variable. All places of one condition come before the next condition. The loop's rows are A, A',
+ * b, those of a lasso's stem B, B', d.
+ *
+ *   of         number  meaning                                                     place
+ *   ranking        21  YA' is not 0                                                the first such column
+ *                  22  (Y - Z)A is not 0                                           the first such column
+ *                  23  Z(A + A') is not 0                                          the first such column
+ *                  24  Zb is not below 0                                           0
+ *   exclusion      31  A.V + A'.U is above 0: the direction leaves a row           the first such row
+ *                  32  A.(W - V) + A'.W is above q b: the step does not meet a row the first such row
+ *   lasso          41  TB is not 0                                                 the first such column
+ *                  42  TB' is not -k s                                             the first such column
+ *                  43  Td is above k s0: the invariant is not started              0
+ *                  44  HA - h0 s is not 0                                          the first such column
+ *                  45  HA' is not -k2 s                                            the first such column
+ *                  46  Hb + h0 s0 is above k2 s0: the invariant is not kept        0
+ *                      and then 21 to 24, over the loop with the row -s.x <= s0 added at the end
  *
  * Places count bytes from the record's first byte unless the table says otherwise. On a refusal all other fields of the
  * answer are 0, but for the record that a verdict speaks of.
@@ -45,7 +64,7 @@
 extern "C" {
 #endif
 
-/* The refusal numbers of the table above. */
+/* The refusal numbers of the first table above; conditions go by their numbers. */
 enum {
     CUSHIEDOO_DONE = 0,
     CUSHIEDOO_ENDS = 1,
@@ -55,7 +74,7 @@ enum {
     CUSHIEDOO_COUNT = 5,
     CUSHIEDOO_VALUE = 6,
     CUSHIEDOO_ROOM = 7,
-    CUSHIEDOO_FAILS = 8,
+    CUSHIEDOO_FAILS = 8, /* no longer given */
     CUSHIEDOO_STATE = 9,
     CUSHIEDOO_ENTRIES = 10,
     CUSHIEDOO_OUTSIDE = 11,
@@ -66,7 +85,7 @@ enum {
 enum {
     CUSHIEDOO_NEITHER = 0,    /* done, 7, 9 and 10 */
     CUSHIEDOO_LOOP = 1,       /* 1 to 6 in the loop record */
-    CUSHIEDOO_CERTIFICATE = 2 /* 1 to 6 in the certificate; 8 and 11 */
+    CUSHIEDOO_CERTIFICATE = 2 /* 1 to 6 in the certificate; 11; a condition's number */
 };
 
 /* The outcome of a verdict: the kind of the certificate that gave it. */
@@ -157,7 +176,7 @@ cushiedoo_writing cushiedoo_sheet(const uint8_t *input, size_t input_len, uint8_
 /*
  * Judges a certificate for a loop. On acceptance of a ranking or a lasso the first n numbers of the rank list are r; an
  * exclusion needs and touches none. Refusals: those of the loop record, those of the certificate, 7 (kinds 2 and 4
- * only), 8, in this order.
+ * only), those of the conditions, in this order.
  */
 cushiedoo_verdict cushiedoo_judge(const uint8_t *loop, size_t loop_len, const uint8_t *certificate,
                                   size_t certificate_len, int64_t *rank, size_t rank_len);
@@ -165,7 +184,7 @@ cushiedoo_verdict cushiedoo_judge(const uint8_t *loop, size_t loop_len, const ui
 /*
  * Judges a ranking or a lasso and tells how many steps a run from the state can take at most. For a lasso that is
  * promised for runs whose first state follows a step of the stem. Refusals: those of the loop record, those of the
- * certificate (kind 3 gives 4), 10, 9, 8, 11, in this order.
+ * certificate (kind 3 gives 4), 10, 9, those of the conditions, 11, in this order.
  */
 cushiedoo_bounded cushiedoo_bound(const uint8_t *loop, size_t loop_len, const uint8_t *certificate,
                                   size_t certificate_len, const int64_t *state, size_t state_len);

@@ -43,9 +43,8 @@ static fault fault_of(uint64_t number, uint64_t place)
 
 /* What one pass over both records finds out. */
 typedef struct {
-    fault loop, certificate;
+    fault loop, certificate, condition;
     uint64_t kind, n;
-    bool holds;
     int64_t r[MOST_VARIABLES], start, fall;
     uint64_t grade;
     const uint8_t *s; /* of a lasso: where s and s0 stand */
@@ -155,14 +154,31 @@ static void clear_totals(ranking_totals *totals, uint64_t n)
     totals->yb = totals->zb = 0;
 }
 
-static void conclude(found *told, const ranking_totals *totals, bool holds)
+/* The first column whose total is not 0. */
+static fault column_fault(uint64_t number, const int64_t *totals, uint64_t n)
+{
+    for (uint64_t j = 0; j < n; j++)
+        if (totals[j]) return fault_of(number, j);
+    return none;
+}
+
+/* The first of a ranking's conditions that fails. */
+static fault ranking_fault(const ranking_totals *totals, uint64_t n)
 {
     int64_t any = 0;
-    for (uint64_t j = 0; j < told->n; j++) {
-        any |= totals->ya_next[j] | totals->difference[j] | totals->both[j];
-        told->r[j] = totals->za_next[j];
+    for (uint64_t j = 0; j < n; j++) any |= totals->ya_next[j] | totals->difference[j] | totals->both[j];
+    if (any) {
+        fault told = column_fault(21, totals->ya_next, n);
+        if (!told.number) told = column_fault(22, totals->difference, n);
+        return told.number ? told : column_fault(23, totals->both, n);
     }
-    told->holds = holds && any == 0 && totals->zb < 0;
+    return totals->zb < 0 ? none : fault_of(24, 0);
+}
+
+static void conclude(found *told, const ranking_totals *totals)
+{
+    told->condition = ranking_fault(totals, told->n);
+    for (uint64_t j = 0; j < told->n; j++) told->r[j] = totals->za_next[j];
     told->start = -totals->yb;
     told->fall = -totals->zb;
 }
@@ -183,7 +199,7 @@ static void pass_ranking(found *told, const uint8_t *loop, uint64_t m, const uin
         }
     }
     if (weights_bad) told->certificate = multiplier_fault(certificate, 6, 2 * m);
-    conclude(told, &totals, true);
+    conclude(told, &totals);
 }
 
 static fault exclusion_fault(const uint8_t *certificate, uint64_t n)
@@ -199,7 +215,7 @@ static void pass_exclusion(found *told, const uint8_t *loop, uint64_t m, const u
     uint64_t n = told->n, width = 4 * n + 4;
     int64_t q = u16_at(certificate + 6);
     const uint8_t *u = certificate + 8, *v = u + 4 * n, *w = v + 4 * n;
-    bool holds = true;
+    uint64_t left = m, missed = m; /* the first row that the direction leaves, and that the step does not meet */
     told->certificate = exclusion_fault(certificate, n);
     if (told->certificate.number) {
         told->loop = rows_fault(loop, 10, n, m);
@@ -220,9 +236,13 @@ static void pass_exclusion(found *told, const uint8_t *loop, uint64_t m, const u
             told->loop = row_fault(row, n, 10 + i * width);
             return;
         }
-        holds &= (direction <= 0) & (step <= q * right);
+        if (direction > 0 && left == m) left = i;
+        if (step > q * right && missed == m) missed = i;
     }
-    told->holds = holds;
+    if (left < m)
+        told->condition = fault_of(31, left);
+    else if (missed < m)
+        told->condition = fault_of(32, missed);
     told->grade = q == 1 ? CUSHIEDOO_WHOLE : CUSHIEDOO_FRACTIONS;
 }
 
@@ -272,15 +292,21 @@ static void clear_part(part_totals *part, uint64_t n)
     part->right = 0;
 }
 
-/* Whether the totals are (h s, -k s) and at most (k - h) s0. */
-static bool part_holds(const part_totals *part, const uint8_t *s, uint64_t n, int64_t k, int64_t h)
+/* Where the totals are not (h s, -k s) and at most (k - h) s0: three conditions, numbered from the first. */
+static fault part_fault(uint64_t first, part_totals *part, const uint8_t *s, uint64_t n, int64_t k, int64_t h)
 {
     int64_t s0 = i32_at(s + 2 * n), any = 0;
     for (uint64_t j = 0; j < n; j++) {
         int64_t entry = i16_at(s + 2 * j);
-        any |= (part->now[j] - h * entry) | (part->next[j] + k * entry);
+        part->now[j] -= h * entry;
+        part->next[j] += k * entry;
+        any |= part->now[j] | part->next[j];
     }
-    return any == 0 && part->right <= (k - h) * s0;
+    if (any) {
+        fault told = column_fault(first, part->now, n);
+        return told.number ? told : column_fault(first + 1, part->next, n);
+    }
+    return part->right <= (k - h) * s0 ? none : fault_of(first + 2, 0);
 }
 
 /* The pass over the stem: TB, TB', Td. */
@@ -362,16 +388,18 @@ static void pass_lasso(found *told, const uint8_t *loop, uint64_t m, const uint8
     if (told->certificate.number) return;
     add_invariant(&totals, s, n, u16_at(certificate + at.y + 2 * m), u16_at(certificate + at.z + 2 * m));
     told->s = s;
-    conclude(told, &totals,
-             part_holds(&stem, s, n, u16_at(certificate + at.k), 0) &&
-                 part_holds(&kept, s, n, u16_at(certificate + at.k2), u16_at(certificate + at.h0)));
+    told->condition = part_fault(41, &stem, s, n, u16_at(certificate + at.k), 0);
+    if (told->condition.number) return;
+    told->condition = part_fault(44, &kept, s, n, u16_at(certificate + at.k2), u16_at(certificate + at.h0));
+    if (told->condition.number) return;
+    conclude(told, &totals);
 }
 
 static void pass(found *told, const uint8_t *loop, size_t loop_len, const uint8_t *certificate, size_t certificate_len,
                  bool exclusions)
 {
     uint64_t m = 0, ms = 0;
-    told->certificate = none;
+    told->certificate = told->condition = none;
     told->loop = loop_frame(loop, loop_len, &told->n, &m);
     if (told->loop.number) return;
     told->certificate = certificate_frame(certificate, certificate_len, exclusions, told->n, m, &told->kind, &ms);
@@ -417,7 +445,7 @@ cushiedoo_verdict onepass_judge(const uint8_t *loop, size_t loop_len, const uint
     if (told.certificate.number) return refused(told.certificate.number, told.certificate.place, 2);
     bool ranked = told.kind != CUSHIEDOO_EXCLUSION;
     if (ranked && rank_len < told.n) return refused(7, told.n, 0);
-    if (!told.holds) return refused(8, 0, 2);
+    if (told.condition.number) return refused(told.condition.number, told.condition.place, 2);
     if (ranked) memcpy(rank, told.r, told.n * sizeof *rank);
     return accepted(&told);
 }
@@ -456,7 +484,7 @@ cushiedoo_bounded onepass_bound(const uint8_t *loop, size_t loop_len, const uint
     if (state_len != told.n) return unbounded(refused(10, state_len, 0));
     for (uint64_t j = 0; j < told.n; j++)
         if (state[j] < -1000000 || state[j] > 1000000) return unbounded(refused(9, j, 0));
-    if (!told.holds) return unbounded(refused(8, 0, 2));
+    if (told.condition.number) return unbounded(refused(told.condition.number, told.condition.place, 2));
     if (told.kind == CUSHIEDOO_LASSO && !invariant_holds(told.s, state, told.n)) return unbounded(refused(11, 0, 2));
     bounded = unbounded(accepted(&told));
     bounded.bound = bound_at(&told, state);

@@ -81,7 +81,7 @@ fn number<T: FromStr>(word: &str) -> Result<T, String> {
 fn agree(subject: &Subject) -> Result<(), String> {
     let answers = CONTENDERS.map(|contender| subject.ask(contender));
     let same = answers.iter().all(|answer| *answer == answers[0]);
-    if same && answers[0].number() == subject.wanted_number() {
+    if same && answers[0].number_and_place() == subject.wanted() {
         return Ok(());
     }
     Err(format!("{}: the answers are {answers:?}", subject.name()))

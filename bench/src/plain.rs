@@ -270,72 +270,86 @@ struct Rank {
     fall: i64,
 }
 
+/// A condition in each of so many columns or rows: the first place where it fails is told.
+fn each(number: u64, count: usize, mut holds: impl FnMut(usize) -> bool) -> Result<(), Fault> {
+    match (0..count).find(|&place| !holds(place)) {
+        Some(place) => Err((number, place as u64)),
+        None => Ok(()),
+    }
+}
+
 /// The four conditions over the rows and an added row -s·x <= s0.
-fn rank(ranking: &Ranking, rows: &Rows, n: usize, s: &Entries, s0: i64) -> Option<Rank> {
+fn rank(ranking: &Ranking, rows: &Rows, n: usize, s: &Entries, s0: i64) -> Result<Rank, Fault> {
     let (y, z) = (&ranking.y, &ranking.z);
     let (y_added, z_added) = (y[rows.count], z[rows.count]);
-    let mut r = NO_ENTRIES;
-    for j in 0..n {
-        if column(y, rows, &rows.next, j) != 0 {
-            return None;
-        }
-        let ya = column(y, rows, &rows.now, j) - y_added * s[j];
-        let za = column(z, rows, &rows.now, j) - z_added * s[j];
+    let (mut za, mut r) = (NO_ENTRIES, NO_ENTRIES);
+    each(21, n, |j| column(y, rows, &rows.next, j) == 0)?;
+    each(22, n, |j| {
+        za[j] = column(z, rows, &rows.now, j) - z_added * s[j];
+        column(y, rows, &rows.now, j) - y_added * s[j] == za[j]
+    })?;
+    each(23, n, |j| {
         r[j] = column(z, rows, &rows.next, j);
-        if ya != za || za + r[j] != 0 {
-            return None;
-        }
-    }
+        za[j] + r[j] == 0
+    })?;
     let zb = right(z, rows) + z_added * s0;
     if zb >= 0 {
-        return None;
+        return Err((24, 0));
     }
     let start = -(right(y, rows) + y_added * s0);
-    Some(Rank {
+    Ok(Rank {
         r,
         start,
         fall: -zb,
     })
 }
 
-fn excluded(exclusion: &Exclusion, rows: &Rows, n: usize) -> bool {
+fn excluded(exclusion: &Exclusion, rows: &Rows, n: usize) -> Result<(), Fault> {
     let Exclusion { q, u, v, w } = exclusion;
     let mut before = NO_ENTRIES;
     for j in 0..n {
         before[j] = w[j] - v[j];
     }
-    (0..rows.count).all(|i| {
-        let (now, next) = (&rows.now[i][..n], &rows.next[i][..n]);
-        dot(now, v) + dot(next, u) <= 0 && dot(now, &before) + dot(next, w) <= q * rows.right[i]
+    let sides = |i: usize| (&rows.now[i][..n], &rows.next[i][..n]);
+    each(31, rows.count, |i| {
+        let (now, next) = sides(i);
+        dot(now, v) + dot(next, u) <= 0
+    })?;
+    each(32, rows.count, |i| {
+        let (now, next) = sides(i);
+        dot(now, &before) + dot(next, w) <= q * rows.right[i]
     })
 }
 
 impl Lasso {
-    fn starts(&self, n: usize) -> bool {
+    fn starts(&self, n: usize) -> Result<(), Fault> {
         let (t, stem) = (&self.t, &self.stem);
-        (0..n).all(|j| {
-            column(t, stem, &stem.now, j) == 0
-                && column(t, stem, &stem.next, j) == -self.k * self.s[j]
-        }) && right(t, stem) <= self.k * self.s0
+        each(41, n, |j| column(t, stem, &stem.now, j) == 0)?;
+        each(42, n, |j| {
+            column(t, stem, &stem.next, j) == -self.k * self.s[j]
+        })?;
+        each(43, 1, |_| right(t, stem) <= self.k * self.s0)
     }
 
-    fn kept(&self, rows: &Rows, n: usize) -> bool {
+    fn kept(&self, rows: &Rows, n: usize) -> Result<(), Fault> {
         let h = &self.h;
-        (0..n).all(|j| {
+        each(44, n, |j| {
             column(h, rows, &rows.now, j) == self.h0 * self.s[j]
-                && column(h, rows, &rows.next, j) == -self.k2 * self.s[j]
-        }) && right(h, rows) + self.h0 * self.s0 <= self.k2 * self.s0
+        })?;
+        each(45, n, |j| {
+            column(h, rows, &rows.next, j) == -self.k2 * self.s[j]
+        })?;
+        each(46, 1, |_| {
+            right(h, rows) + self.h0 * self.s0 <= self.k2 * self.s0
+        })
     }
 
-    fn rank(&self, rows: &Rows, n: usize) -> Option<Rank> {
-        if !self.starts(n) || !self.kept(rows, n) {
-            return None;
-        }
+    fn rank(&self, rows: &Rows, n: usize) -> Result<Rank, Fault> {
+        self.starts(n)?;
+        self.kept(rows, n)?;
         rank(&self.ranking, rows, n, &self.s, self.s0)
     }
 }
-
-const FAILS: Refused = (8, 0, 2);
 
 fn of_loop((number, place): Fault) -> Refused {
     (number, place, 1)
@@ -386,21 +400,19 @@ fn judged(looped: &[u8], certificate: &[u8], list: &mut [i64]) -> Result<Verdict
         2 => {
             let ranking = parse_ranking(certificate, m).map_err(of_certificate)?;
             room_for(n, list)?;
-            let rank = rank(&ranking, &rows, n, &NO_ENTRIES, 0).ok_or(FAILS)?;
+            let rank = rank(&ranking, &rows, n, &NO_ENTRIES, 0).map_err(of_certificate)?;
             Ok(fill(list, &rank, n, 2))
         }
         3 => {
             let exclusion = parse_exclusion(certificate, n).map_err(of_certificate)?;
-            if !excluded(&exclusion, &rows, n) {
-                return Err(FAILS);
-            }
+            excluded(&exclusion, &rows, n).map_err(of_certificate)?;
             Ok(verdict(3, 0, 0, if exclusion.q == 1 { 1 } else { 2 }))
         }
         4 => {
             let mut lasso = Lasso::NONE;
             lasso.parse(certificate, n, m).map_err(of_certificate)?;
             room_for(n, list)?;
-            let rank = lasso.rank(&rows, n).ok_or(FAILS)?;
+            let rank = lasso.rank(&rows, n).map_err(of_certificate)?;
             Ok(fill(list, &rank, n, 4))
         }
         _ => Err((4, 4, 2)),
@@ -441,14 +453,14 @@ fn bounded(looped: &[u8], certificate: &[u8], state: &[i64]) -> Result<(Verdict,
         2 => {
             let ranking = parse_ranking(certificate, m).map_err(of_certificate)?;
             state_in_range(state, n)?;
-            let rank = rank(&ranking, &rows, n, &NO_ENTRIES, 0).ok_or(FAILS)?;
+            let rank = rank(&ranking, &rows, n, &NO_ENTRIES, 0).map_err(of_certificate)?;
             Ok(bound_at(&rank, state, 2))
         }
         4 => {
             let mut lasso = Lasso::NONE;
             lasso.parse(certificate, n, m).map_err(of_certificate)?;
             state_in_range(state, n)?;
-            let rank = lasso.rank(&rows, n).ok_or(FAILS)?;
+            let rank = lasso.rank(&rows, n).map_err(of_certificate)?;
             if dot(&lasso.s, state) + lasso.s0 < 0 {
                 return Err((11, 0, 2));
             }

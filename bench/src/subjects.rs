@@ -1,9 +1,9 @@
 //! What is measured: each call on loops of five sizes with certificates of each kind, dense and sparse, accepted and
-//! refused at four points.
+//! refused at several points.
 
 use crate::contenders::Contender;
 use cushiedoo::raw::{Bounded, Verdict};
-use second_opinion::construct::{self, bring_to_edge, Built, Inequality, Style};
+use second_opinion::construct::{self, bring_to_edge, fail, Built, Inequality, Style};
 use second_opinion::oracle::conditions::Row;
 use second_opinion::oracle::judging::Certificate;
 use second_opinion::oracle::layout::Kind;
@@ -28,17 +28,38 @@ pub enum Fill {
 #[derive(Clone, Copy, Debug, PartialEq, Eq)]
 pub enum Answer {
     Accepted,
-    /// Refused by the last condition.
+    /// Refused by the last condition: 24, or 32 in the last row.
     Last,
-    /// Refused by the first condition.
+    /// Refused by the first condition in its first column or row: 21, 31 or 41.
     First,
+    /// Refused by a ranking's last equation in its last column: 23.
+    Column,
+    /// Refused by an exclusion's direction in the last row: 31.
+    Direction,
+    /// Refused by the last condition on a lasso's invariant: 46.
+    Kept,
     /// Refused before any value is looked at: the loop record's kind is not 1.
     Early,
 }
 
 pub const SIZES: [(usize, usize); 5] = [(1, 1), (2, 3), (4, 8), (8, 24), (16, 64)];
 const KINDS: [Kind; 3] = [Kind::Ranking, Kind::Exclusion, Kind::Lasso];
-const ANSWERS: [Answer; 4] = [Answer::Accepted, Answer::Last, Answer::First, Answer::Early];
+
+/// What is measured of a kind; one refusal is of this kind alone.
+fn answers(kind: Kind) -> [Answer; 5] {
+    let own = match kind {
+        Kind::Exclusion => Answer::Direction,
+        Kind::Lasso => Answer::Kept,
+        _ => Answer::Column,
+    };
+    [
+        Answer::Accepted,
+        Answer::Last,
+        Answer::First,
+        own,
+        Answer::Early,
+    ]
+}
 
 /// One input that every contender answers.
 #[derive(Clone, Debug)]
@@ -62,10 +83,10 @@ pub enum Told {
 }
 
 impl Told {
-    pub fn number(&self) -> u64 {
+    pub fn number_and_place(&self) -> (u64, u64) {
         match self {
-            Told::Judged(verdict, _) => verdict.number,
-            Told::Bounded(bounded) => bounded.number,
+            Told::Judged(verdict, _) => (verdict.number, verdict.place),
+            Told::Bounded(bounded) => (bounded.number, bounded.place),
         }
     }
 }
@@ -109,12 +130,20 @@ impl Subject {
         }
     }
 
-    /// The refusal number that the answer must have.
-    pub fn wanted_number(&self) -> u64 {
-        match self.answer {
-            Answer::Accepted => 0,
-            Answer::Last | Answer::First => 8,
-            Answer::Early => 4,
+    /// The refusal number and the place that the answer must have.
+    pub fn wanted(&self) -> (u64, u64) {
+        let (last_column, last_row) = (self.n as u64 - 1, self.m as u64 - 1);
+        match (self.answer, self.kind) {
+            (Answer::Accepted, _) => (0, 0),
+            (Answer::Last, Kind::Exclusion) => (32, last_row),
+            (Answer::Last, _) => (24, 0),
+            (Answer::First, Kind::Exclusion) => (31, 0),
+            (Answer::First, Kind::Lasso) if self.m > 1 => (41, 0),
+            (Answer::First, _) => (21, 0),
+            (Answer::Column, _) => (23, last_column),
+            (Answer::Direction, _) => (31, last_row),
+            (Answer::Kept, _) => (46, 0),
+            (Answer::Early, _) => (4, 4),
         }
     }
 }
@@ -131,7 +160,7 @@ pub fn subjects() -> Vec<Subject> {
                 for fill in [Fill::Dense, Fill::Sparse] {
                     let built = build(kind, n, m, fill);
                     let subject = |&answer| subject(&built, call, fill, answer);
-                    subjects.extend(ANSWERS.iter().map(subject));
+                    subjects.extend(answers(kind).iter().map(subject));
                 }
             }
         }
@@ -145,6 +174,9 @@ fn subject(built: &Built, call: Call, fill: Fill, answer: Answer) -> Subject {
         Answer::Accepted | Answer::Early => {}
         Answer::Last => fail_last(&mut built),
         Answer::First => fail_first(&mut built),
+        Answer::Column => fail_column(&mut built),
+        Answer::Direction => fail_direction(&mut built),
+        Answer::Kept => fail_kept(&mut built),
     }
     let pair = &built.pair;
     let mut looped = pair.loop_bytes();
@@ -231,6 +263,35 @@ fn fail_first(built: &mut Built) {
             Some(row) => lasso.stem[row].now[0] += 1,
             None => raise_next(rows, &lasso.ranking.y),
         },
+    }
+}
+
+/// Lets Z(A + A') = 0 fail in the last column alone. A row that is the only one gets the same weight in Y and Z.
+fn fail_column(built: &mut Built) {
+    let last = built.pair.n - 1;
+    match &mut built.pair.certificate {
+        Certificate::Ranking(ranking) if ranking.y.len() == 1 => {
+            ranking.y[0] = ranking.z[0];
+            built.pair.rows[0].now[last] += 1;
+        }
+        _ => fail(built, 23, last, 1),
+    }
+}
+
+/// Lets the direction leave the last row, and no other.
+fn fail_direction(built: &mut Built) {
+    let last = built.pair.rows.len() - 1;
+    fail(built, 31, last, 1);
+}
+
+/// Lets the invariant not be kept by its right sides. Without a row of its own it leans on h0.
+fn fail_kept(built: &mut Built) {
+    match &mut built.pair.certificate {
+        Certificate::Lasso(lasso) if built.pivots.kept.is_none() => {
+            lasso.s0 = lasso.s0.max(1);
+            lasso.h0 = lasso.k2 + 1;
+        }
+        _ => fail(built, 46, 0, 1),
     }
 }
 

@@ -1,9 +1,9 @@
 /*
- * Judges the first certificate of loop P and prints the verdict in words.
+ * Judges two certificates of loop P and prints the verdicts in words.
  *
- * Loop P over (p, q) has the rows -p + q <= -2; -p + p' <= -1; q - q' <= 0. Its certificate is the ranking with
- * Y = (1, 0, 0) and Z = (0, 1, 1). Both records are written by the library, so no byte is spelt out here. From the
- * repository's root, once `rt staticlib rip` has made the archive:
+ * Loop P over (p, q) has the rows -p + q <= -2; -p + p' <= -1; q - q' <= 0. The first certificate is the ranking with
+ * Y = (1, 0, 0) and Z = (0, 1, 1); in the second Z leaves out the last row. The records are written by the library, so
+ * no byte is spelt out here. From the repository's root, once `rt staticlib rip` has made the archive:
  *
  *     cc -std=c99 -Wall -Wextra -Werror -Iinclude examples/c/judge.c target/staticlib/librip.a -o judge
  *     ./judge
@@ -18,6 +18,26 @@
 
 #define COUNT(list) (sizeof(list) / sizeof((list)[0]))
 
+/* The condition that a certificate fails, in words. */
+static const char *failing(uint64_t number)
+{
+    switch (number) {
+    case 21: return "YA' is not 0 in this column";
+    case 22: return "(Y - Z)A is not 0 in this column";
+    case 23: return "Z(A + A') is not 0 in this column";
+    case 24: return "Zb is not below 0";
+    case 31: return "A.V + A'.U is above 0 at this row";
+    case 32: return "A.(W - V) + A'.W is above q b at this row";
+    case 41: return "TB is not 0 in this column";
+    case 42: return "TB' is not -k s in this column";
+    case 43: return "Td is above k s0";
+    case 44: return "HA - h0 s is not 0 in this column";
+    case 45: return "HA' is not -k2 s in this column";
+    case 46: return "Hb + h0 s0 is above k2 s0";
+    default: return "unknown number";
+    }
+}
+
 /* A refusal's meaning in words. */
 static const char *meaning(uint64_t number)
 {
@@ -30,13 +50,13 @@ static const char *meaning(uint64_t number)
         "count out of range",
         "value out of range",
         "room too small",
-        "a condition fails",
+        "no longer given",
         "state entry out of range",
         "state doesn't have n entries",
         "lasso state outside the invariant",
         "value list of the wrong length",
     };
-    return number < COUNT(meanings) ? meanings[number] : "unknown number";
+    return number < COUNT(meanings) ? meanings[number] : failing(number);
 }
 
 /* Which record a verdict speaks of, in words. */
@@ -94,7 +114,7 @@ int main(void)
     enum { N = 2, M = 3 };
     const int64_t rows[M * (2 * N + 1)] = {-1, 1, 0, 0, -2, -1, 0, 1, 0, -1, 0, 1, 0, -1, 0};
     const int64_t multipliers[2 * M] = {1, 0, 0, 0, 1, 1};
-    const int64_t all_zero[2 * M] = {0};
+    const int64_t without_last[2 * M] = {1, 0, 0, 0, 1, 0};
     const int64_t state[N] = {5, 1};
     uint8_t loop[64], certificate[64];
     int64_t rank[N] = {0};
@@ -108,7 +128,7 @@ int main(void)
     cushiedoo_bounded bounded = cushiedoo_bound(loop, loop_len, certificate, certificate_len, state, N);
     printf("from (5, 1) a run takes at most %" PRIu64 " steps\n", bounded.bound);
 
-    certificate_len = written(2, N, M, all_zero, COUNT(all_zero), certificate, COUNT(certificate));
+    certificate_len = written(2, N, M, without_last, COUNT(without_last), certificate, COUNT(certificate));
     verdict = cushiedoo_judge(loop, loop_len, certificate, certificate_len, rank, N);
     print_verdict(&verdict, rank, N);
     return 0;

@@ -1,5 +1,5 @@
 //! The cases: for each call of the archive, inputs of every kind, valid, damaged, at and past the limits, and with
-//! conditions that hold or just fail.
+//! conditions that just hold, just fail, or fail together.
 
 use crate::construct::{self, Built, Inequality, Style};
 use crate::damage::{any_record, any_values, damage, limits};
@@ -99,12 +99,18 @@ fn some_stem_rows(random: &mut Random) -> usize {
 
 /// A loop with a certificate of this kind that is accepted, unless the loop has too few rows for one.
 fn some_built(random: &mut Random, kind: Kind) -> Built {
+    some_built_with(random, kind, 0, 0)
+}
+
+/// The same, with so many rows and stem rows at least.
+fn some_built_with(random: &mut Random, kind: Kind, rows: usize, stem_rows: usize) -> Built {
     let (n, m) = some_size(random);
+    let m = m.max(rows);
     let style = some_style(random);
     match kind {
         Kind::Exclusion => construct::exclusion(random, n, m, style),
         Kind::Lasso => {
-            let ms = some_stem_rows(random);
+            let ms = some_stem_rows(random).max(stem_rows);
             construct::lasso(random, n, m, ms, style)
         }
         _ if random.one_in(8) => construct::steep_ranking(random, n, m),
@@ -120,12 +126,11 @@ const INEQUALITIES: [Inequality; 5] = [
     Inequality::Direction,
 ];
 
-/// Lets a condition just fail: an equation by one, an inequality by one, or some value by one.
-fn break_a_condition(random: &mut Random, built: &mut Built) {
-    match random.below(4) {
-        0 => construct::break_equation(built, random),
-        1 => change_any_value_by_one(random, &mut built.pair),
-        _ => {
+/// Lets conditions fail: chosen ones at chosen places, an inequality by one, or what some value changed by one breaks.
+fn break_conditions(random: &mut Random, built: &mut Built) {
+    match random.below(8) {
+        0 => change_any_value_by_one(random, &mut built.pair),
+        1 => {
             let of_kind = match built.pair.certificate {
                 Certificate::Ranking(_) => Inequality::Fall,
                 Certificate::Exclusion(_) => random.pick(&INEQUALITIES[3..]),
@@ -133,6 +138,39 @@ fn break_a_condition(random: &mut Random, built: &mut Built) {
             };
             construct::bring_to_edge(built, of_kind, 1);
         }
+        _ => fail_conditions(random, built),
+    }
+}
+
+/// Lets a condition fail, mostly the next one as well, and now and then any other. Of a lasso's ten, 43 to 46 are chosen
+/// more often, since fewer lassos have the rows for them.
+fn fail_conditions(random: &mut Random, built: &mut Built) {
+    let (n, m) = (built.pair.n, built.pair.rows.len());
+    let numbers = construct::breakable(built);
+    if numbers.is_empty() {
+        return;
+    }
+    let invariant = numbers.iter().position(|number| *number == 43);
+    let chosen = match invariant {
+        Some(start) if built.pivots.kept.is_some() && random.one_in(2) => start + random.below(4),
+        _ => random.below(numbers.len()),
+    };
+    let mut failing = numbers[chosen..].to_vec();
+    failing.truncate(random.pick(&[1, 2, 2]));
+    if random.one_in(8) {
+        failing.push(random.pick(&numbers));
+    }
+    for (i, number) in failing.into_iter().enumerate() {
+        let last = construct::places(number, n, m) - 1;
+        let place = match random.below(5) {
+            0 => random.below(last + 1),
+            1 => 0,
+            _ if i == 0 => last,
+            _ => 0,
+        };
+        let by = random.pick(&[1, 1, 2, 1000]);
+        let by = if random.one_in(2) { by } else { -by };
+        construct::fail(built, number, place, by);
     }
 }
 
@@ -156,9 +194,13 @@ fn change_any_value_by_one(random: &mut Random, pair: &mut Pair) {
     }
 }
 
-/// A loop and a certificate, well formed: accepted, or with a condition that just fails, or of any values.
+/// A loop and a certificate, well formed: accepted, or with conditions that fail, or of any values.
 fn some_pair(random: &mut Random, kind: Kind) -> Built {
-    let mut built = some_built(random, kind);
+    let breaks = random.below(8) < if kind == Kind::Lasso { 3 } else { 2 };
+    let mut built = match breaks && !random.one_in(5) {
+        true => some_built_with(random, kind, 3, 1),
+        false => some_built(random, kind),
+    };
     if random.one_in(3) {
         for inequality in INEQUALITIES {
             construct::bring_to_edge(&mut built, inequality, 0);
@@ -166,10 +208,10 @@ fn some_pair(random: &mut Random, kind: Kind) -> Built {
     } else {
         construct::slacken(&mut built, random);
     }
-    match random.below(8) {
-        0 => break_a_condition(random, &mut built),
-        1 if random.one_in(3) => built.pair.certificate = any_certificate(random, &built.pair),
-        _ => {}
+    if breaks {
+        break_conditions(random, &mut built);
+    } else if random.one_in(20) {
+        built.pair.certificate = any_certificate(random, &built.pair);
     }
     built
 }
@@ -405,11 +447,11 @@ fn move_start(random: &mut Random, built: &mut Built, state: &[i64]) {
     };
     let (n, rows) = (built.pair.n, &mut built.pair.rows);
     let rank = match &built.pair.certificate {
-        Certificate::Ranking(ranking) => ranking.accepted(n, rows),
-        Certificate::Lasso(lasso) => lasso.accepted(n, rows),
-        Certificate::Exclusion(_) => None,
+        Certificate::Ranking(ranking) => ranking.judged(n, rows),
+        Certificate::Lasso(lasso) => lasso.judged(n, rows),
+        Certificate::Exclusion(_) => return,
     };
-    let Some(rank) = rank else { return };
+    let Ok(rank) = rank else { return };
     let value: i128 = rank
         .r
         .iter()

@@ -1,12 +1,19 @@
-//! Counts of the cases, and the quotas that a whole run must meet: 30 % accepted, and every kind, every refusal number
-//! with each record that it can speak of, and every line of a sheet at least 500 times.
+//! Counts of the cases, and the quotas that a whole run must meet: 30 % accepted; every kind, every refusal number with
+//! each record that it can speak of, and every line of a sheet at least 500 times; every condition that fails at least
+//! 100 times, and 50 times each at its first place, at its last, and together with the next condition.
 
 use crate::cases::Case;
 use crate::compare::{Answer, Lent, Told};
+use crate::construct::places;
+use crate::oracle::judging;
+use crate::oracle::Refusal;
 use std::collections::BTreeMap;
 
 /// The fewest times that anything must come up.
 const LEAST: u64 = 500;
+/// The fewest times that a failing condition must come up, and each way in which it comes up.
+const LEAST_FAILING: u64 = 100;
+const LEAST_WAY: u64 = 50;
 /// The fewest accepted cases in a hundred.
 const LEAST_ACCEPTED: u64 = 30;
 
@@ -45,7 +52,6 @@ const QUOTAS: [(&str, &[&str]); 6] = [
             "5 of certificate",
             "6 of certificate",
             "7",
-            "8 of certificate",
         ],
     ),
     (
@@ -69,7 +75,6 @@ const QUOTAS: [(&str, &[&str]); 6] = [
             "4 of certificate",
             "5 of certificate",
             "6 of certificate",
-            "8 of certificate",
             "9",
             "10",
             "11 of certificate",
@@ -93,12 +98,76 @@ const QUOTAS: [(&str, &[&str]); 6] = [
             "line refused 4",
             "line refused 5",
             "line refused 6",
-            "line refused 8",
             "line input too long",
             "7",
         ],
     ),
 ];
+
+/// The conditions that fail in a column or a row, and those on right sides.
+const IN_PLACES: [u64; 9] = [21, 22, 23, 31, 32, 41, 42, 44, 45];
+const ON_RIGHT_SIDES: [u64; 3] = [24, 43, 46];
+/// Conditions of which the second is told next, and whether the second has an earlier place to fail in.
+const NEIGHBOURS: [(u64, u64, bool); 10] = [
+    (21, 22, true),
+    (22, 23, true),
+    (23, 24, false),
+    (31, 32, true),
+    (41, 42, true),
+    (42, 43, false),
+    (43, 44, false),
+    (44, 45, true),
+    (45, 46, false),
+    (46, 21, false),
+];
+
+/// What must come up of failing conditions in a call, and how often.
+fn failing_quotas(call: &str) -> Vec<(String, u64)> {
+    let told = |number: &u64| match call {
+        "sheet" => format!("line refused {number}"),
+        _ => format!("{number} of certificate"),
+    };
+    let numbers = IN_PLACES.iter().chain(&ON_RIGHT_SIDES);
+    let mut quotas: Vec<_> = numbers
+        .map(|number| (told(number), LEAST_FAILING))
+        .collect();
+    if call != "sheet" {
+        quotas.extend(ways().into_iter().map(|way| (way, LEAST_WAY)));
+    }
+    let of_exclusion = |name: &str| name.starts_with('3');
+    quotas.retain(|(name, _)| call != "bound" || !of_exclusion(name));
+    quotas
+}
+
+/// The ways in which conditions fail.
+fn ways() -> Vec<String> {
+    let places = IN_PLACES.map(|number| [at_first(number), at_last(number)]);
+    let mut ways = places.concat();
+    for (first, second, in_places) in NEIGHBOURS {
+        ways.push(together(first, second));
+        if in_places {
+            ways.push(overtaken(first, second));
+        }
+    }
+    ways
+}
+
+fn at_first(number: u64) -> String {
+    format!("{number} at the first of several")
+}
+
+fn at_last(number: u64) -> String {
+    format!("{number} at the last of several")
+}
+
+fn together(first: u64, second: u64) -> String {
+    format!("{first} and {second}")
+}
+
+/// The second condition fails in an earlier place, and the first is told all the same.
+fn overtaken(first: u64, second: u64) -> String {
+    format!("{first} and {second} in an earlier place")
+}
 
 /// How often each thing came up, by call.
 #[derive(Default)]
@@ -129,6 +198,9 @@ impl Tally {
         if !(done && matches!(case, Case::Sheet { .. })) {
             self.add(call, answer_name(case, &answer.told));
         }
+        for name in ways_of(case, &answer.told) {
+            self.add(call, name);
+        }
         for line in lines {
             self.add(call, line);
         }
@@ -136,6 +208,15 @@ impl Tally {
 
     fn add(&mut self, call: &'static str, name: String) {
         *self.counts.entry((call, name)).or_insert(0) += 1;
+    }
+
+    /// Adds what another tally has counted.
+    pub fn add_all(&mut self, other: Tally) {
+        self.cases += other.cases;
+        self.accepted += other.accepted;
+        for (name, count) in other.counts {
+            *self.counts.entry(name).or_insert(0) += count;
+        }
     }
 
     /// Prints all counts.
@@ -158,16 +239,21 @@ impl Tally {
     /// The quotas that are not met, in words.
     pub fn unmet(&self) -> Vec<String> {
         let mut unmet = Vec::new();
+        let mut ask = |call: &'static str, name: String, least: u64| {
+            let count = self.counts.get(&(call, name.clone())).copied();
+            let count = count.unwrap_or(0);
+            if count < least {
+                unmet.push(format!("{call}, {name}: {count} times, not {least}"));
+            }
+        };
         for (call, names) in QUOTAS {
             for name in names {
-                let count = self
-                    .counts
-                    .get(&(call, name.to_string()))
-                    .copied()
-                    .unwrap_or(0);
-                if count < LEAST {
-                    unmet.push(format!("{call}, {name}: {count} times, not {LEAST}"));
-                }
+                ask(call, name.to_string(), LEAST);
+            }
+        }
+        for call in ["judge", "bound", "sheet"] {
+            for (name, least) in failing_quotas(call) {
+                ask(call, name, least);
             }
         }
         if self.accepted * 100 < self.cases * LEAST_ACCEPTED {
@@ -209,6 +295,45 @@ fn answer_name(case: &Case, told: &Told) -> String {
         }
         _ => "done".to_string(),
     }
+}
+
+/// The ways in which a case's condition fails: by its place, and by what fails with it.
+fn ways_of(case: &Case, told: &Told) -> Vec<String> {
+    let records = match case {
+        Case::Judge {
+            loop_bytes,
+            certificate,
+            ..
+        }
+        | Case::Bound {
+            loop_bytes,
+            certificate,
+            ..
+        } if told.number_and_record().0 > 20 => judging::failing(loop_bytes, certificate),
+        _ => None,
+    };
+    let Some((n, m, failing)) = records else {
+        return Vec::new();
+    };
+    let Refusal { number, place } = failing[0];
+    let places = places(number, n, m) as u64;
+    let mut names = Vec::new();
+    if places > 1 && place == 0 {
+        names.push(at_first(number));
+    }
+    if places > 1 && place == places - 1 {
+        names.push(at_last(number));
+    }
+    for (first, second, in_places) in NEIGHBOURS {
+        let next = failing.iter().find(|fails| fails.number == second);
+        if let Some(next) = next.filter(|_| first == number) {
+            names.push(together(first, second));
+            if in_places && next.place < place {
+                names.push(overtaken(first, second));
+            }
+        }
+    }
+    names
 }
 
 fn outcome_name(outcome: u64, grade: u64) -> String {

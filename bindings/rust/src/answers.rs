@@ -15,28 +15,52 @@ pub enum Record {
     Certificate,
 }
 
+/// Where a certificate fails a condition first. Columns and rows count from 0; a column stands for a variable.
+#[derive(Clone, Copy, Debug, PartialEq, Eq, Hash)]
+pub enum Fails {
+    /// An equation of weighted sums, in this column.
+    InColumn(u64),
+    /// An inequality that every row of the loop must meet, at this row.
+    AtRow(u64),
+    /// An inequality of right sides, of which there is one.
+    OnRightSides,
+}
+
 /// A refusal: its number, its place, and the record that it speaks of.
 ///
 /// A refused call changed nothing that it was lent.
 ///
 /// ```
-/// use cushiedoo::{Record, Refusal};
+/// use cushiedoo::{Fails, Record, Refusal};
 /// let refusal = Refusal { number: 6, place: 12, record: Record::Certificate };
 /// assert_eq!(refusal.meaning(), "value out of range, the first in layout order");
 /// assert_eq!(
 ///     refusal.to_string(),
 ///     "refused 6, place 12 (its first byte), in the certificate: value out of range, the first in layout order"
 /// );
+///
+/// // A condition that fails is told by its number, with the first column or row where it does.
+/// let refusal = Refusal { number: 22, place: 1, record: Record::Certificate };
+/// assert_eq!(refusal.fails(), Some(Fails::InColumn(1)));
+/// assert_eq!(
+///     refusal.to_string(),
+///     "refused 22, place 1 (column, from 0), in the certificate: (Y - Z)A is not 0 in column 1"
+/// );
 /// ```
 #[derive(Clone, Copy, Debug, PartialEq, Eq, Hash)]
 pub struct Refusal {
-    /// The number of the refusal, 1 to 12.
+    /// The number of the refusal: 1 to 12 without 8, which is no longer given, or that of a condition that fails, 21 to
+    /// 24, 31, 32, 41 to 46.
     pub number: u64,
     /// Its place; [`Refusal::place_meaning`] says of what.
     pub place: u64,
     /// The record that it speaks of.
     pub record: Record,
 }
+
+/// What the places of conditions tell.
+const COLUMN: &str = "column, from 0";
+const ROW: &str = "row, from 0";
 
 impl Refusal {
     /// What the number means, in words.
@@ -49,7 +73,17 @@ impl Refusal {
         self.words().1
     }
 
-    /// The line of the refusal table that has this number.
+    /// Where a condition fails, if that is what the refusal tells.
+    pub fn fails(&self) -> Option<Fails> {
+        match self.number {
+            21..=23 | 41 | 42 | 44 | 45 => Some(Fails::InColumn(self.place)),
+            31 | 32 => Some(Fails::AtRow(self.place)),
+            24 | 43 | 46 => Some(Fails::OnRightSides),
+            _ => None,
+        }
+    }
+
+    /// The line of the refusal tables that has this number.
     fn words(&self) -> (&'static str, &'static str) {
         match self.number {
             1 => ("bytes end early", "number of bytes"),
@@ -65,11 +99,22 @@ impl Refusal {
                 "its first byte",
             ),
             7 => ("room too small", "room needed"),
-            8 => ("a condition fails", "always 0"),
             9 => ("state entry out of range, the first", "its index, from 0"),
             10 => ("state doesn't have n entries", "number of entries"),
             11 => ("lasso state outside the invariant", "always 0"),
             12 => ("value list of the wrong length", "length needed"),
+            21 => ("YA' is not 0", COLUMN),
+            22 => ("(Y - Z)A is not 0", COLUMN),
+            23 => ("Z(A + A') is not 0", COLUMN),
+            24 => ("Zb is not below 0", "always 0"),
+            31 => ("A·V + A'·U is above 0", ROW),
+            32 => ("A·(W - V) + A'·W is above q b", ROW),
+            41 => ("TB is not 0", COLUMN),
+            42 => ("TB' is not -k s", COLUMN),
+            43 => ("Td is above k s0", "always 0"),
+            44 => ("HA - h0 s is not 0", COLUMN),
+            45 => ("HA' is not -k2 s", COLUMN),
+            46 => ("Hb + h0 s0 is above k2 s0", "always 0"),
             _ => ("a number that this version doesn't know", "unknown"),
         }
     }
@@ -88,7 +133,12 @@ impl fmt::Display for Refusal {
             Record::Loop => write!(out, ", in the loop")?,
             Record::Certificate => write!(out, ", in the certificate")?,
         }
-        write!(out, ": {}", self.meaning())
+        let meaning = self.meaning();
+        match self.fails() {
+            Some(Fails::InColumn(column)) => write!(out, ": {meaning} in column {column}"),
+            Some(Fails::AtRow(row)) => write!(out, ": at row {row} {meaning}"),
+            _ => write!(out, ": {meaning}"),
+        }
     }
 }
 

@@ -31,13 +31,21 @@
 //!     cut.to_string(),
 //!     "refused 1, place 17 (number of bytes), in the certificate: bytes end early"
 //! );
+//!
+//! // So does one of a certificate that fails a condition: here Z leaves out the last row.
+//! write_record(2, 2, 3, &[1, 0, 0, 0, 1, 0], &mut certificate)?;
+//! let failing = judge(&looped, &certificate, &mut rank);
+//! assert_eq!(
+//!     failing.to_string(),
+//!     "refused 22, place 1 (column, from 0), in the certificate: (Y - Z)A is not 0 in column 1"
+//! );
 //! # Ok::<(), cushiedoo::Refusal>(())
 //! ```
 
 mod answers;
 pub mod raw;
 
-pub use answers::{Bounded, Grade, Outcome, Reading, Record, Refusal, Verdict};
+pub use answers::{Bounded, Fails, Grade, Outcome, Reading, Record, Refusal, Verdict};
 
 /// Reads a loop record (kind 1) into the first places of `values`: its rows, each of n entries of A, n of A' and b.
 pub fn read_loop(bytes: &[u8], values: &mut [i64]) -> Result<Reading, Refusal> {

@@ -1,8 +1,8 @@
 //! The wrapper's calls on the scope paper's own samples: what they give, what they refuse, and what people read.
 
 use cushiedoo::{
-    bound, judge, read_certificate, read_loop, sheet, sheet_text, write_record, Bounded, Grade,
-    Outcome, Reading, Record, Refusal, Verdict,
+    bound, judge, read_certificate, read_loop, sheet, sheet_text, write_record, Bounded, Fails,
+    Grade, Outcome, Reading, Record, Refusal, Verdict,
 };
 
 fn record(kind: u64, n: u64, m: u64, values: &[i64]) -> Vec<u8> {
@@ -82,6 +82,55 @@ fn refusals_tell_number_place_and_record() {
     assert_eq!(rank, [9, 9]);
 }
 
+/// The refusal of a certificate that fails a condition.
+fn failing(looped: &[u8], certificate: &[u8]) -> Refusal {
+    let mut rank = [9; 2];
+    let verdict = judge(looped, certificate, &mut rank);
+    assert_eq!(rank, [9, 9]);
+    verdict.into_result().expect_err("a condition fails")
+}
+
+#[test]
+fn a_condition_that_fails_is_told_in_words() {
+    let column = failing(&loop_p(), &record(2, 2, 3, &[1, 0, 0, 0, 1, 0]));
+    assert_eq!(column.fails(), Some(Fails::InColumn(1)));
+    assert_eq!(
+        column.to_string(),
+        "refused 22, place 1 (column, from 0), in the certificate: (Y - Z)A is not 0 in column 1"
+    );
+    let row = failing(&loop_p(), &record(3, 2, 3, &[1, 0, -1, 0, 0, 0, 0]));
+    assert_eq!(row.fails(), Some(Fails::AtRow(2)));
+    assert_eq!(
+        row.to_string(),
+        "refused 31, place 2 (row, from 0), in the certificate: at row 2 A·V + A'·U is above 0"
+    );
+    let zeros = record(2, 2, 3, &[0; 6]);
+    let right_sides = failing(&loop_p(), &zeros);
+    assert_eq!(right_sides.fails(), Some(Fails::OnRightSides));
+    assert_eq!(
+        right_sides.to_string(),
+        "refused 24, place 0 (always 0), in the certificate: Zb is not below 0"
+    );
+    assert_eq!(bound(&loop_p(), &zeros, &[5, 1]), Err(right_sides));
+}
+
+#[test]
+fn every_number_has_words() {
+    let (place, record) = (0, Record::Certificate);
+    let known = |number: u64| {
+        let refusal = Refusal {
+            number,
+            place,
+            record,
+        };
+        refusal.place_meaning() != "unknown"
+    };
+    let numbers: Vec<u64> = (0..100).filter(|&number| known(number)).collect();
+    let given = [1..=7, 9..=12, 21..=24, 31..=32, 41..=46];
+    let given: Vec<u64> = given.into_iter().flatten().collect();
+    assert_eq!(numbers, given);
+}
+
 #[test]
 fn reading_gives_the_values_and_leaves_the_rest() {
     let mut values = [9; 16];
@@ -105,7 +154,7 @@ fn reading_gives_the_values_and_leaves_the_rest() {
 fn the_sheet_of_p() {
     let second = record(2, 2, 3, &[1, 0, 0, 0, 1, 0]);
     let input = [loop_p(), first_certificate(), second].concat();
-    let text = "loop 2 3\n1 rank 1 -1 from 2 down 1\n2 refused 8 0\n";
+    let text = "loop 2 3\n1 rank 1 -1 from 2 down 1\n2 refused 22 1\n";
     assert_eq!(sheet_text(&input), text);
     let refusal = sheet(&input, &mut []).expect_err("there is no room");
     assert_eq!(refusal.number, 7);

@@ -124,27 +124,6 @@ fn lead(row: &mut Row, exclusion: &Exclusion, over: i64) {
     }
 }
 
-/// Changes an entry of a pivot by one, so that an equation of the certificate fails.
-pub fn break_equation(built: &mut Built, random: &mut Random) {
-    let Built { pair, pivots } = built;
-    let of_loop = [pivots.start, pivots.fall, pivots.kept];
-    let rows: Vec<usize> = of_loop.into_iter().flatten().collect();
-    let row = match (&mut pair.certificate, pivots.stem) {
-        (Certificate::Lasso(lasso), Some(stem)) if rows.is_empty() || random.one_in(3) => {
-            &mut lasso.stem[stem]
-        }
-        _ if rows.is_empty() => return,
-        _ => &mut pair.rows[random.pick(&rows)],
-    };
-    let column = random.below(pair.n);
-    let entry = match random.one_in(2) {
-        true => &mut row.now[column],
-        false => &mut row.next[column],
-    };
-    let change = if *entry == ENTRY.high { -1 } else { 1 };
-    *entry += change;
-}
-
 /// Gives Kept and Start something to spare, where the built pair holds them with equality.
 pub fn slacken(built: &mut Built, random: &mut Random) {
     for inequality in [Inequality::Kept, Inequality::Start] {
@@ -208,9 +187,9 @@ mod tests {
     fn accepted(built: &Built) -> bool {
         let (n, rows) = (built.pair.n, &built.pair.rows);
         match &built.pair.certificate {
-            Certificate::Ranking(ranking) => ranking.accepted(n, rows).is_some(),
-            Certificate::Exclusion(exclusion) => exclusion.accepted(rows),
-            Certificate::Lasso(lasso) => lasso.accepted(n, rows).is_some(),
+            Certificate::Ranking(ranking) => ranking.judged(n, rows).is_ok(),
+            Certificate::Exclusion(exclusion) => exclusion.judged(rows).is_ok(),
+            Certificate::Lasso(lasso) => lasso.judged(n, rows).is_ok(),
         }
     }
 

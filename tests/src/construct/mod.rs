@@ -6,11 +6,13 @@
 
 mod edges;
 mod exclusion;
+mod failing;
 mod lasso;
 mod ranking;
 
-pub use edges::{break_equation, bring_to_edge, scale, slacken, Inequality};
+pub use edges::{bring_to_edge, scale, slacken, Inequality};
 pub use exclusion::exclusion;
+pub use failing::{breakable, fail, places};
 pub use lasso::lasso;
 pub use ranking::{ranking, steep_ranking};
 

@@ -1,4 +1,9 @@
 //! The published conditions: ranking, exclusion and lasso over lists of rows, and the bound formula. No byte in sight.
+//!
+//! A condition that fails is told by its number, with the column or the row in which it fails, counted from 0, or 0 for
+//! right sides. All columns, or rows, of one condition come before the next condition.
+
+use super::Refusal;
 
 /// Row i reads: A_i·x + A'_i·x' <= b_i.
 #[derive(Clone, Debug, PartialEq, Eq)]
@@ -66,61 +71,119 @@ fn weighted(multipliers: &[i64], rows: &[Row], of: impl Fn(&Row) -> i64) -> i128
         .sum()
 }
 
+/// The tests that fail, in the order in which they are told.
+#[derive(Default)]
+struct Failing {
+    told: Vec<Refusal>,
+}
+
+impl Failing {
+    /// A condition in each of so many columns or rows.
+    fn each(&mut self, number: u64, count: usize, holds: impl Fn(usize) -> bool) {
+        let fails = (0..count).filter(|&place| !holds(place));
+        self.told.extend(fails.map(|place| Refusal {
+            number,
+            place: place as u64,
+        }));
+    }
+
+    /// A condition on right sides.
+    fn right_sides(&mut self, number: u64, holds: bool) {
+        self.each(number, 1, |_| holds);
+    }
+}
+
+/// The first test that fails is told.
+fn first_of(failing: Vec<Refusal>) -> Result<(), Refusal> {
+    match failing.first() {
+        Some(refusal) => Err(*refusal),
+        None => Ok(()),
+    }
+}
+
 impl Ranking {
-    /// YA' = 0; (Y - Z)A = 0; Z(A + A') = 0; Zb < 0.
-    pub fn accepted(&self, n: usize, rows: &[Row]) -> Option<Rank> {
+    /// 21: YA' = 0; 22: (Y - Z)A = 0; 23: Z(A + A') = 0; 24: Zb < 0.
+    pub fn failing(&self, n: usize, rows: &[Row]) -> Vec<Refusal> {
         let Ranking { y, z } = self;
-        let columns_meet = (0..n).all(|j| {
-            weighted(y, rows, |row| row.next[j]) == 0
-                && weighted(y, rows, |row| row.now[j]) == weighted(z, rows, |row| row.now[j])
-                && weighted(z, rows, |row| row.now[j] + row.next[j]) == 0
+        let mut failing = Failing::default();
+        failing.each(21, n, |j| weighted(y, rows, |row| row.next[j]) == 0);
+        failing.each(22, n, |j| {
+            weighted(y, rows, |row| row.now[j]) == weighted(z, rows, |row| row.now[j])
         });
-        let right = weighted(z, rows, |row| row.right);
-        (columns_meet && right < 0).then(|| Rank {
+        failing.each(23, n, |j| {
+            weighted(z, rows, |row| row.now[j] + row.next[j]) == 0
+        });
+        failing.right_sides(24, weighted(z, rows, |row| row.right) < 0);
+        failing.told
+    }
+
+    fn rank(&self, n: usize, rows: &[Row]) -> Rank {
+        let Ranking { y, z } = self;
+        Rank {
             r: (0..n)
                 .map(|j| weighted(z, rows, |row| row.next[j]))
                 .collect(),
             start: -weighted(y, rows, |row| row.right),
-            fall: -right,
-        })
+            fall: -weighted(z, rows, |row| row.right),
+        }
+    }
+
+    pub fn judged(&self, n: usize, rows: &[Row]) -> Result<Rank, Refusal> {
+        first_of(self.failing(n, rows))?;
+        Ok(self.rank(n, rows))
     }
 }
 
 impl Exclusion {
-    /// For every row i, A_i·V + A'_i·U <= 0, and A_i·(W - V) + A'_i·W <= q b_i.
-    pub fn accepted(&self, rows: &[Row]) -> bool {
+    /// 31: A_i·V + A'_i·U <= 0, for every row i; then 32: A_i·(W - V) + A'_i·W <= q b_i, for every row i.
+    pub fn failing(&self, rows: &[Row]) -> Vec<Refusal> {
         let Exclusion { q, u, v, w } = self;
         let before: Vec<i64> = w.iter().zip(v).map(|(w, v)| w - v).collect();
-        rows.iter().all(|row| {
-            let direction = dot(&row.now, v) + dot(&row.next, u);
-            let step = dot(&row.now, &before) + dot(&row.next, w);
-            direction <= 0 && step <= i128::from(*q) * i128::from(row.right)
-        })
+        let mut failing = Failing::default();
+        failing.each(31, rows.len(), |i| {
+            dot(&rows[i].now, v) + dot(&rows[i].next, u) <= 0
+        });
+        failing.each(32, rows.len(), |i| {
+            let step = dot(&rows[i].now, &before) + dot(&rows[i].next, w);
+            step <= i128::from(*q) * i128::from(rows[i].right)
+        });
+        failing.told
+    }
+
+    pub fn judged(&self, rows: &[Row]) -> Result<(), Refusal> {
+        first_of(self.failing(rows))
     }
 }
 
 impl Lasso {
-    /// TB = 0, TB' = -k s, Td <= k s0.
-    fn starts(&self, n: usize) -> bool {
+    /// Start. 41: TB = 0; 42: TB' = -k s; 43: Td <= k s0.
+    fn start_failing(&self, n: usize) -> Vec<Refusal> {
         let Lasso { stem, s, k, t, .. } = self;
-        let columns_meet = (0..n).all(|j| {
-            weighted(t, stem, |row| row.now[j]) == 0
-                && weighted(t, stem, |row| row.next[j]) == -i128::from(k * s[j])
+        let mut failing = Failing::default();
+        failing.each(41, n, |j| weighted(t, stem, |row| row.now[j]) == 0);
+        failing.each(42, n, |j| {
+            weighted(t, stem, |row| row.next[j]) == -i128::from(k * s[j])
         });
-        columns_meet && weighted(t, stem, |row| row.right) <= i128::from(k * self.s0)
+        let right = weighted(t, stem, |row| row.right);
+        failing.right_sides(43, right <= i128::from(k * self.s0));
+        failing.told
     }
 
-    /// HA - h0 s = 0, HA' = -k2 s, Hb + h0 s0 <= k2 s0.
-    fn kept(&self, n: usize, rows: &[Row]) -> bool {
+    /// Kept. 44: HA - h0 s = 0; 45: HA' = -k2 s; 46: Hb + h0 s0 <= k2 s0.
+    fn kept_failing(&self, n: usize, rows: &[Row]) -> Vec<Refusal> {
         let Lasso {
             s, s0, k2, h, h0, ..
         } = self;
-        let columns_meet = (0..n).all(|j| {
-            weighted(h, rows, |row| row.now[j]) == i128::from(h0 * s[j])
-                && weighted(h, rows, |row| row.next[j]) == -i128::from(k2 * s[j])
+        let mut failing = Failing::default();
+        failing.each(44, n, |j| {
+            weighted(h, rows, |row| row.now[j]) - i128::from(h0 * s[j]) == 0
         });
-        columns_meet
-            && weighted(h, rows, |row| row.right) + i128::from(h0 * s0) <= i128::from(k2 * s0)
+        failing.each(45, n, |j| {
+            weighted(h, rows, |row| row.next[j]) == -i128::from(k2 * s[j])
+        });
+        let right = weighted(h, rows, |row| row.right);
+        failing.right_sides(46, right + i128::from(h0 * s0) <= i128::from(k2 * s0));
+        failing.told
     }
 
     /// The row -s·x <= s0, which the ranking may lean on.
@@ -132,14 +195,22 @@ impl Lasso {
         }
     }
 
-    /// Start, kept, and the four conditions over the loop with the added row at the end.
-    pub fn accepted(&self, n: usize, rows: &[Row]) -> Option<Rank> {
-        if !self.starts(n) || !self.kept(n, rows) {
-            return None;
-        }
+    /// The loop with the added row at the end.
+    fn longer(&self, rows: &[Row]) -> Vec<Row> {
         let mut longer = rows.to_vec();
         longer.push(self.added_row());
-        self.ranking.accepted(n, &longer)
+        longer
+    }
+
+    /// Start, kept, and then a ranking's four conditions over the longer loop.
+    pub fn failing(&self, n: usize, rows: &[Row]) -> Vec<Refusal> {
+        let ranking = self.ranking.failing(n, &self.longer(rows));
+        [self.start_failing(n), self.kept_failing(n, rows), ranking].concat()
+    }
+
+    pub fn judged(&self, n: usize, rows: &[Row]) -> Result<Rank, Refusal> {
+        first_of(self.failing(n, rows))?;
+        Ok(self.ranking.rank(n, &self.longer(rows)))
     }
 
     pub fn invariant_holds(&self, state: &[i64]) -> bool {

@@ -156,31 +156,39 @@ fn verdict(
     n: usize,
     rows: &[Row],
     certificate: &Certificate,
-) -> Result<(Verdict, Option<Rank>), Refused> {
-    let fails = Err((
-        2,
-        Refusal {
-            number: 8,
-            place: 0,
-        },
-    ));
+) -> Result<(Verdict, Option<Rank>), Refusal> {
     match certificate {
-        Certificate::Ranking(ranking) => match ranking.accepted(n, rows) {
-            Some(rank) => Ok((ranked(Kind::Ranking, &rank), Some(rank))),
-            None => fails,
-        },
-        Certificate::Exclusion(exclusion) => match exclusion.accepted(rows) {
-            true => Ok((excluded(exclusion), None)),
-            false => fails,
-        },
-        Certificate::Lasso(lasso) => match lasso.accepted(n, rows) {
-            Some(rank) => Ok((ranked(Kind::Lasso, &rank), Some(rank))),
-            None => fails,
-        },
+        Certificate::Ranking(ranking) => {
+            let rank = ranking.judged(n, rows)?;
+            Ok((ranked(Kind::Ranking, &rank), Some(rank)))
+        }
+        Certificate::Exclusion(exclusion) => {
+            exclusion.judged(rows)?;
+            Ok((excluded(exclusion), None))
+        }
+        Certificate::Lasso(lasso) => {
+            let rank = lasso.judged(n, rows)?;
+            Ok((ranked(Kind::Lasso, &rank), Some(rank)))
+        }
     }
 }
 
-/// The loop record, then the certificate, then 7 (kinds 2 and 4 only), then 8.
+/// Every test of the conditions that two records fail, in the order in which they are told, and the loop's n and m; none
+/// if a record is not sound.
+pub fn failing(
+    loop_bytes: &[u8],
+    certificate_bytes: &[u8],
+) -> Option<(usize, usize, Vec<Refusal>)> {
+    let (n, rows, certificate) = both(loop_bytes, certificate_bytes, &CERTIFICATES).ok()?;
+    let failing = match certificate {
+        Certificate::Ranking(ranking) => ranking.failing(n, &rows),
+        Certificate::Exclusion(exclusion) => exclusion.failing(&rows),
+        Certificate::Lasso(lasso) => lasso.failing(n, &rows),
+    };
+    Some((n, rows.len(), failing))
+}
+
+/// The loop record, then the certificate, then 7 (kinds 2 and 4 only), then the conditions.
 fn judged(
     loop_bytes: &[u8],
     certificate_bytes: &[u8],
@@ -191,7 +199,7 @@ fn judged(
     if fills && list.len() < n {
         return of_record(0, refuse(7, n));
     }
-    let (verdict, rank) = verdict(n, &rows, &certificate)?;
+    let (verdict, rank) = of_record(2, verdict(n, &rows, &certificate))?;
     if let Some(rank) = rank {
         for (place, r) in list.iter_mut().zip(rank.r) {
             *place = i64::try_from(r).expect("the ranges keep r within 64 bits");
@@ -204,7 +212,7 @@ pub fn judge(loop_bytes: &[u8], certificate_bytes: &[u8], list: &mut [i64]) -> V
     judged(loop_bytes, certificate_bytes, list).unwrap_or_else(refused)
 }
 
-/// Loop, certificate (kind 3 gives 4), 10, 9, 8, 11.
+/// Loop, certificate (kind 3 gives 4), 10, 9, the conditions, 11.
 fn bounded(loop_bytes: &[u8], certificate_bytes: &[u8], state: &[i64]) -> Result<Bounded, Refused> {
     let (n, rows, certificate) =
         both(loop_bytes, certificate_bytes, &[Kind::Ranking, Kind::Lasso])?;
@@ -214,7 +222,7 @@ fn bounded(loop_bytes: &[u8], certificate_bytes: &[u8], state: &[i64]) -> Result
     if let Some(index) = state.iter().position(|&entry| !STATE.holds(entry)) {
         return of_record(0, refuse(9, index));
     }
-    let (verdict, rank) = verdict(n, &rows, &certificate)?;
+    let (verdict, rank) = of_record(2, verdict(n, &rows, &certificate))?;
     match &certificate {
         Certificate::Lasso(lasso) if !lasso.invariant_holds(state) => {
             return of_record(2, refuse(11, 0));

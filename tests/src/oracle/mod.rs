@@ -1,4 +1,5 @@
-//! The oracle: an independent, plain rendering of the scope paper ("01"), written from the paper alone.
+//! The oracle: an independent, plain rendering of the scope paper ("01") with the requests after it ("02") that have
+//! landed, written from the papers alone.
 //!
 //! It is made to be read beside the paper, not to be fast: records are read into lists, sums are taken in 128 bits, and
 //! each order of refusals is a function whose lines follow the paper's sentence. It knows nothing of the archive.

@@ -58,7 +58,7 @@ fn s1_to_s6_loop_p() {
     assert_eq!(judge(&loop_p(), &s2, &mut rank), ranking(4, 2));
     assert_eq!(rank, [2, -2, 9]);
     let s3 = record(2, 2, 3, &[0; 6]);
-    assert_eq!(judge(&loop_p(), &s3, &mut rank), refused(8, 0, 2));
+    assert_eq!(judge(&loop_p(), &s3, &mut rank), refused(24, 0, 2));
     let states: [&[i64]; 3] = [&[5, 1], &[3, 1], &[2, 1]];
     assert_eq!(bounds(&loop_p(), &s1, &states), [3, 1, 0]);
 }
@@ -104,7 +104,7 @@ fn s12_to_s14_small_loops() {
     let no_rows = record(1, 1, 0, &[]);
     let mut rank = [9];
     let nothing = record(2, 1, 0, &[]);
-    assert_eq!(judge(&no_rows, &nothing, &mut rank), refused(8, 0, 2));
+    assert_eq!(judge(&no_rows, &nothing, &mut rank), refused(24, 0, 2));
     let zeros = record(3, 1, 0, &[1, 0, 0, 0]);
     assert_eq!(judge(&no_rows, &zeros, &mut []), excluded(1));
 
@@ -122,13 +122,73 @@ fn s12_to_s14_small_loops() {
     assert_eq!(bounds(&by_two, &s14, &states), [0, 1, 1, 2]);
 }
 
+/// The number and place that judging tells of a certificate.
+fn told(looped: &[u8], certificate: &[u8]) -> (u64, u64) {
+    let verdict = judge(looped, certificate, &mut [0; 2]);
+    assert_eq!(verdict, refused(verdict.number, verdict.place, 2));
+    (verdict.number, verdict.place)
+}
+
+#[test]
+fn a_ranking_fails_all_columns_of_one_condition_before_the_next() {
+    let tells = |values: &[i64]| told(&loop_p(), &record(2, 2, 3, values));
+    assert_eq!(tells(&[0, 1, 0, 0, 1, 1]), (21, 0));
+    assert_eq!(tells(&[0, 0, 1, 0, 1, 1]), (21, 1)); // 22 at 0 too
+    assert_eq!(tells(&[0, 0, 0, 0, 1, 1]), (22, 0));
+    assert_eq!(tells(&[1, 0, 0, 1, 0, 1]), (22, 1)); // 23 at 0 too
+    assert_eq!(tells(&[1, 0, 0, 1, 0, 0]), (23, 0));
+    let below = record(1, 2, 1, &[0, 1, 0, 0, 0]);
+    assert_eq!(told(&below, &record(2, 2, 1, &[1, 1])), (23, 1)); // 24 too
+    assert_eq!(tells(&[0; 6]), (24, 0));
+}
+
+#[test]
+fn an_exclusion_fails_by_its_direction_in_any_row_before_its_step() {
+    let tells = |values: &[i64]| told(&loop_p(), &record(3, 2, 3, values));
+    assert_eq!(tells(&[1, 0, 0, 0, 1, 0, 0]), (31, 0));
+    assert_eq!(tells(&[1, 0, -1, 0, 0, 0, 0]), (31, 2)); // 32 at 0 too
+    assert_eq!(tells(&[1, 0, 0, 0, 0, 0, 0]), (32, 0));
+    assert_eq!(tells(&[1, -1, -1, -1, -1, 2, 0]), (32, 2));
+}
+
+#[test]
+fn a_lasso_fails_by_start_then_kept_then_as_a_ranking() {
+    let looped = record(1, 2, 3, &[-1, 0, 0, 0, 0, -1, 1, 1, 0, 0, 0, 1, 0, -1, 0]);
+    // S10, with a stem row, k, T, k2, H, h0 and Z of the test's own
+    let tells = |stem: [i64; 5], kept: [i64; 7], z: [i64; 4]| {
+        let values = [&[1], &stem[..], &[0, 1, -1], &kept, &[1, 0, 0, 0], &z].concat();
+        told(&looped, &record(4, 2, 3, &values))
+    };
+    let (stem, kept, z) = ([0, 0, 0, -1, -1], [1, 1, 1, 0, 0, 1, 1], [0, 1, 0, 1]);
+    assert_eq!(tells([1, 0, 0, -1, -1], kept, z), (41, 0));
+    assert_eq!(tells([0, 1, 1, -1, -1], kept, z), (41, 1)); // 42 at 0 too
+    assert_eq!(tells([0, 0, 1, -1, -1], kept, z), (42, 0));
+    assert_eq!(tells([0, 0, 0, -2, 0], kept, z), (42, 1)); // 43 too
+    assert_eq!(tells([0, 0, 0, -1, 0], [1, 1, 1, 1, 0, 1, 1], z), (43, 0)); // 44 at 0 too
+    assert_eq!(tells(stem, [1, 1, 1, 1, 0, 1, 1], z), (44, 0));
+    assert_eq!(tells(stem, [1, 1, 2, 0, 0, 1, 2], z), (44, 1)); // 45 at 1 too
+    assert_eq!(tells(stem, [1, 1, 2, 0, 0, 1, 1], z), (45, 1)); // 46 too
+    assert_eq!(tells(stem, kept, [0, 0, 0, 1]), (22, 0));
+    assert_eq!(tells(stem, kept, [0, 1, 0, 0]), (22, 1)); // without the added row
+    assert_eq!(tells(stem, kept, [1, 0, 0, 0]), (23, 0));
+
+    // x' <= 0; y - y' <= 1
+    let other = record(1, 2, 2, &[0, 0, 1, 0, 0, 0, 1, 0, -1, 1]);
+    let tells = |h: [i64; 2]| {
+        let values = [&[1], &stem[..], &[0, 1, -1, 1, 1, 1], &h, &[1], &[0; 6]].concat();
+        told(&other, &record(4, 2, 2, &values))
+    };
+    assert_eq!(tells([1, 1]), (45, 0)); // 46 too
+    assert_eq!(tells([0, 1]), (46, 0)); // 24 too
+}
+
 #[test]
 fn the_sheet_of_p() {
     let mut input = loop_p();
     input.extend(record(2, 2, 3, &[1, 0, 0, 0, 1, 1]));
     input.extend(record(2, 2, 3, &[1, 0, 0, 0, 1, 0]));
     assert_eq!(input.len(), 82);
-    let text = "loop 2 3\n1 rank 1 -1 from 2 down 1\n2 refused 8 0\n";
+    let text = "loop 2 3\n1 rank 1 -1 from 2 down 1\n2 refused 22 1\n";
     assert_eq!(sheet(&input), text);
     assert_eq!(sheet(&[]), "loop refused 1 0\n");
     input.truncate(47);
