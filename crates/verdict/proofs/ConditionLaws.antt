@@ -1,13 +1,13 @@
 -- What the conditions of a pair of records tell: exactly the first that fails, with a number from 21 to 46 and a column or a row of
 -- the loop. So 0 is told only when all of them hold, and no number of another test is told by them.
-use mathlib.Core.Path.{_≡_, refl, sym, ap, _∙_}
+use mathlib.Core.Path.{_≡_, sym, ap, _∙_}
 use mathlib.Core.Logic.{_↔_}
 use Prim.Native.Nat.{ℕ, _+_, _≤_, _<_}
 use native.Mathlib.Omega.{arith}
 use lib.ListN.{length}
 use Rattle.record.specs.Layouts.{Kind, loop, ranking, exclusion, lasso, other}
 use Rattle.refusal.specs.Places.{FirstFailing}
-use Rattle.refusal.specs.Tests.{Told, done, refused, number}
+use Rattle.refusal.specs.Tests.{refused, number}
 use Rattle.refusal.proofs.FaultLaws.{Named}
 use Rattle.refusal.proofs.TestLaws.{never}
 use Rattle.theory.specs.Conditions.{rankingTold, exclusionTold, lassoTold}
@@ -41,7 +41,8 @@ module _ (p : Pair) where
 
 -- ---- exactly the first that fails
 
-pub claim-told-exactly : (k : Kind) (p : Pair) (number place : ℕ) → (claim k p .told ≡ refused number place) ↔ ConditionFails k p number place
+pub claim-told-exactly : (k : Kind) (p : Pair) (number place : ℕ)
+    → (claim k p .told ≡ refused number place) ↔ ConditionFails k p number place
 unfolding claim ranking-claim exclusion-claim lasso-claim no-claim
 claim-told-exactly loop p number place = (λ h. never (sym h), λ h. absurd h)
 claim-told-exactly ranking p number place = told-exactly-ranking (loop-in (p .loop-is)) (ranking-in (p .certificate-is)) number place

@@ -14,7 +14,7 @@ use lib.Seq.{take-at, drop-at, take-all, drop-drop}
 use Rattle.whole.specs.Rows.{Row}
 use Rattle.whole.specs.Sums.{Each}
 use Rattle.record.specs.Contents.{Counts-in, Row-in, Rows-in, row-values, rows-values, Ranking-in, ranking-values, Exclusion-in, exclusion-values, Lasso-in, lasso-values}
-use Rattle.record.specs.Layouts.{ranking, kindOf, is-loop, is-lasso}
+use Rattle.record.specs.Layouts.{ranking, exclusion, lasso, kindOf, is-loop, is-lasso}
 use Rattle.record.specs.Readers as R
 use Rattle.record.specs.Readers.{sound}
 use Rattle.record.proofs.KindLaws.{wanted-no-loop}
@@ -173,17 +173,58 @@ pub record Loop-given (n m : ℕ) (rs : List Row) (room : List ℕ) : Type 0 whe
 loop-told : (n m : ℕ) (rs : List Row) (room : List ℕ) → Loop-given n m rs room → W.writes (loop-writer n m rs room) .number ≡ 0
 loop-told n m rs room g = told-zero _ _ (write-accepts-loop n m rs room (g .counts-in) (g .rows-in) (g .fits))
 
+-- a judging of the bytes that are written for a loop and for a certificate
+abbrev pub written : ℕ → ℕ → List Row → List ℕ → Writer → List ℕ → List ℤ → Judging
+written n m rs room w room′ lent = judge-of (bytes-in (loop-writer n m rs room) room) (bytes-in w room′) lent
+
+-- a ranking, an exclusion and a lasso, as they are written
+abbrev pub ranking-writer : ℕ → ℕ → List ℤ → List ℤ → List ℕ → Writer
+ranking-writer n m Y Z room = W.writer 2 n m (ranking-values Y Z) room
+
+abbrev pub exclusion-writer : ℕ → ℕ → ℕ → List ℤ → List ℤ → List ℤ → List ℕ → Writer
+exclusion-writer n m q U V′ W′ room = W.writer 3 n m (exclusion-values (pos q) U V′ W′) room
+
+abbrev pub lasso-writer : ℕ → ℕ → Lasso → List ℕ → Writer
+lasso-writer n m c room = W.writer 4 n m (lasso-values (parts c)) room
+
+-- and as judging finds them
+module _ (n m : ℕ) (rs : List Row) (room room′ : List ℕ) (lent : List ℤ) (g : Loop-given n m rs room) where
+  pub ranking-written : (Y Z : List ℤ) → Ranking-in m Y Z → 4 + (2 + 4 * m) ≤ length room′
+      → let j = written n m rs room (ranking-writer n m Y Z room′) room′ lent in
+      Judged-pair j n m rs (ranking-writer n m Y Z room′) × (kind-of (j .records) ≡ ranking) × (ranking-in (j .records .certificate-is) ≡ record { Y = Y; Z = Z })
+  unfolding W.writer W.kind kindOf wants-of W.counts-given judge-of ranking-in
+  ranking-written Y Z h fits =
+      let told = told-zero _ _ (write-accepts-ranking n m Y Z room′ (g .counts-in) h fits) in
+      let p = judged-pair n m rs room room′ (ranking-writer n m Y Z room′) lent (g .rows-in) (loop-told n m rs room g) told refl refl refl in
+      (p, p .kind-is, rw (p .counts-are, p .list-is) (ranking-back m Y Z h))
+
+  pub exclusion-written : (q : ℕ) (U V′ W′ : List ℤ) → Exclusion-in n (pos q) U V′ W′ → 4 + (4 + 12 * n) ≤ length room′
+      → let j = written n m rs room (exclusion-writer n m q U V′ W′ room′) room′ lent in
+      Judged-pair j n m rs (exclusion-writer n m q U V′ W′ room′) × (kind-of (j .records) ≡ exclusion)
+      × (exclusion-in (j .records .certificate-is) ≡ record { q = q; U = U; «V» = V′; W = W′ })
+  unfolding W.writer W.kind kindOf wants-of W.counts-given judge-of exclusion-in
+  exclusion-written q U V′ W′ h fits =
+      let told = told-zero _ _ (write-accepts-exclusion n m (pos q) U V′ W′ room′ (g .counts-in) h fits) in
+      let p = judged-pair n m rs room room′ (exclusion-writer n m q U V′ W′ room′) lent (g .rows-in) (loop-told n m rs room g) told refl refl refl in
+      (p, p .kind-is, rw (p .counts-are, p .list-is) (exclusion-back n q U V′ W′ h))
+
+  pub lasso-written : (c : Lasso) → Lasso-in n m (parts c) → 4 + (18 + 2 * n + length (c .stem) * (4 * n + 6) + 6 * m) ≤ length room′
+      → let j = written n m rs room (lasso-writer n m c room′) room′ lent in
+      Judged-pair j n m rs (lasso-writer n m c room′) × (kind-of (j .records) ≡ lasso) × (lasso-in (j .records .certificate-is) ≡ c)
+  unfolding W.writer W.kind kindOf wants-of W.counts-given W.ms-given is-lasso judge-of lasso-in lasso-values parts
+  lasso-written c h fits =
+      let told = told-zero _ _ (write-accepts-lasso n m (parts c) room′ (g .counts-in) h fits) in
+      let p = judged-pair n m rs room room′ (lasso-writer n m c room′) lent (g .rows-in) (loop-told n m rs room g) told refl refl refl in
+      (p, p .kind-is, rw (p .counts-are, p .list-is) (lasso-back n m c h))
+
 pub ranking-in-values : (n m : ℕ) (rs : List Row) (Y Z : List ℤ) (room room′ : List ℕ) (lent : List ℤ) → Loop-given n m rs room → Ranking-in m Y Z
     → 4 + (2 + 4 * m) ≤ length room′ → n ≤ length lent
     → (judges (judge-of (bytes-in (loop-writer n m rs room) room) (bytes-in (W.writer 2 n m (ranking-values Y Z) room′) room′) lent) .number ≡ 0)
     ↔ RankingHolds (Loops.over n rs) (record { Y = Y; Z = Z })
-unfolding W.writer W.kind kindOf wants-of W.counts-given judge-of ranking-in
+unfolding judge-of
 ranking-in-values n m rs Y Z room room′ lent g h fits there =
-    let w = W.writer 2 n m (ranking-values Y Z) room′ in
-    let j = judge-of (bytes-in (loop-writer n m rs room) room) (bytes-in w room′) lent in
-    let p = judged-pair n m rs room room′ w lent (g .rows-in) (loop-told n m rs room g) (told-zero _ _ (write-accepts-ranking n m Y Z room′ (g .counts-in) h fits)) refl refl refl in
-    let values-are : ranking-in (j .records .certificate-is) ≡ record { Y = Y; Z = Z } = rw (p .counts-are, p .list-is) (ranking-back m Y Z h) in
-    let a = accepted-exactly-when-ranking j (p .kind-is) in (
+    let (p, kind-is, values-are) = ranking-written n m rs room room′ lent g Y Z h fits in
+    let a = accepted-exactly-when-ranking _ kind-is in (
       λ x. rw (p .loop-is, values-are) at (a .0 x .holds),
       λ x. a .1 (record { both-sound = p .both-sound; room = rw (p .variables-are) there; holds = rw (p .loop-is, values-are) x }),
     )
@@ -192,26 +233,21 @@ pub exclusion-in-values : (n m : ℕ) (rs : List Row) (q : ℕ) (U V′ W′ : L
     → 4 + (4 + 12 * n) ≤ length room′
     → (judges (judge-of (bytes-in (loop-writer n m rs room) room) (bytes-in (W.writer 3 n m (exclusion-values (pos q) U V′ W′) room′) room′) lent) .number ≡ 0)
     ↔ ExclusionHolds (Loops.over n rs) (record { q = q; U = U; «V» = V′; W = W′ })
-unfolding W.writer W.kind kindOf wants-of W.counts-given judge-of exclusion-in
 exclusion-in-values n m rs q U V′ W′ room room′ lent g h fits =
-    let w = W.writer 3 n m (exclusion-values (pos q) U V′ W′) room′ in
-    let j = judge-of (bytes-in (loop-writer n m rs room) room) (bytes-in w room′) lent in
-    let p = judged-pair n m rs room room′ w lent (g .rows-in) (loop-told n m rs room g) (told-zero _ _ (write-accepts-exclusion n m (pos q) U V′ W′ room′ (g .counts-in) h fits)) refl refl refl in
-    let values-are : exclusion-in (j .records .certificate-is) ≡ record { q = q; U = U; «V» = V′; W = W′ } = rw (p .counts-are, p .list-is) (exclusion-back n q U V′ W′ h) in
-    let a = accepted-exactly-when-exclusion j (p .kind-is) in
-    (λ x. rw (p .loop-is, values-are) at (a .0 x .holds), λ x. a .1 (record { both-sound = p .both-sound; holds = rw (p .loop-is, values-are) x }))
+    let (p, kind-is, values-are) = exclusion-written n m rs room room′ lent g q U V′ W′ h fits in
+    let a = accepted-exactly-when-exclusion _ kind-is in (
+      λ x. rw (p .loop-is, values-are) at (a .0 x .holds),
+      λ x. a .1 (record { both-sound = p .both-sound; holds = rw (p .loop-is, values-are) x }),
+    )
 
 pub lasso-in-values : (n m : ℕ) (rs : List Row) (c : Lasso) (room room′ : List ℕ) (lent : List ℤ) → Loop-given n m rs room → Lasso-in n m (parts c)
     → 4 + (18 + 2 * n + length (c .stem) * (4 * n + 6) + 6 * m) ≤ length room′ → n ≤ length lent
     → (judges (judge-of (bytes-in (loop-writer n m rs room) room) (bytes-in (W.writer 4 n m (lasso-values (parts c)) room′) room′) lent) .number ≡ 0)
     ↔ LassoHolds (Loops.over n rs) c
-unfolding W.writer W.kind kindOf wants-of W.counts-given W.ms-given is-lasso judge-of lasso-in lasso-values parts
+unfolding judge-of
 lasso-in-values n m rs c room room′ lent g h fits there =
-    let w = W.writer 4 n m (lasso-values (parts c)) room′ in
-    let j = judge-of (bytes-in (loop-writer n m rs room) room) (bytes-in w room′) lent in
-    let p = judged-pair n m rs room room′ w lent (g .rows-in) (loop-told n m rs room g) (told-zero _ _ (write-accepts-lasso n m (parts c) room′ (g .counts-in) h fits)) refl refl refl in
-    let values-are : lasso-in (j .records .certificate-is) ≡ c = rw (p .counts-are, p .list-is) (lasso-back n m c h) in
-    let a = accepted-exactly-when-lasso j (p .kind-is) in (
+    let (p, kind-is, values-are) = lasso-written n m rs room room′ lent g c h fits in
+    let a = accepted-exactly-when-lasso _ kind-is in (
       λ x. rw (p .loop-is, values-are) at (a .0 x .holds),
       λ x. a .1 (record { both-sound = p .both-sound; room = rw (p .variables-are) there; holds = rw (p .loop-is, values-are) x }),
     )

@@ -20,3 +20,4 @@ pub mod ConditionEdges
 pub mod WrongJudges
 pub mod UnlikeSamples
 pub mod ToldExactly
+pub mod ToldInValues

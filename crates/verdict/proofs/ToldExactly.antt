@@ -5,21 +5,21 @@
 use mathlib.Core.Path.{_≡_, refl, sym, ap, _∙_}
 use mathlib.Core.Logic.{_↔_}
 use Prim.Native.Nat.{ℕ, _≤_, _<_}
-use mathlib.Core.Bool.{Bool, true, false, _&&_}
+use mathlib.Core.Bool.{Bool, true, _&&_}
 use mathlib.Core.List.{List, [], _∷_}
 use native.Mathlib.Omega.{arith}
 use lib.Dec.{leb}
 use borrow.Author.Tests.{leb-true}
 use Rattle.record.specs.Layouts.{has-rank}
 use Rattle.record.specs.Readers.{sound}
-use Rattle.refusal.specs.Tests.{done, refused, Test, _at_unless_, first, number}
+use Rattle.refusal.specs.Tests.{done, Test, _at_unless_, first, number}
 use Rattle.refusal.proofs.TestLaws.{either, both-true, passed, failed, number-avoided}
 use Rattle.verdict.specs.Bounding.{Bounding, given-state, invariant, bounding, bounded, bounds}
 use Rattle.verdict.specs.Fails.{ConditionFails}
 use Rattle.verdict.specs.Judging.{Judging, rank-room, judging, judges}
-use Rattle.verdict.specs.Pairs.{kind-of, variables-of, conditions}
+use Rattle.verdict.specs.Pairs.{kind-of, variables-of}
 use Rattle.verdict.specs.StateTests.{state-tests}
-use Rattle.verdict.specs.Stages.{Said, agreed, refusal, Stage, _says_, said, refusal-of, verdict-of}
+use Rattle.verdict.specs.Stages.{Said, agreed, refusal, _says_, said, refusal-of, verdict-of}
 use Rattle.verdict.specs.declared.Bounded.{Bounded}
 use Rattle.verdict.specs.declared.Outcome.{Outcome}
 use Rattle.verdict.specs.declared.Verdict.{Verdict}
