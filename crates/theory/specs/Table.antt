@@ -47,7 +47,9 @@ told =
     -- S10, S11; then start, kept and the ranking, each in turn
     (lassoTold S10-loop S10, done) ∷
     (exclusionTold S10-loop (record { q = 1; U = pos 0 ∷ pos 0 ∷ []; «V» = pos 0 ∷ pos 0 ∷ []; W = pos 0 ∷ pos 0 ∷ [] }), done) ∷ (
-      lassoTold S10-loop (lasso (row (pos 1 ∷ pos 0 ∷ []) (pos 0 ∷ negsuc 0 ∷ []) (negsuc 0) ∷ []) (negsuc 0) 1 (1 ∷ []) 1 (0 ∷ 0 ∷ 1 ∷ []) 1 S10-ranking),
+      lassoTold
+          S10-loop
+          (lasso (row (pos 1 ∷ pos 0 ∷ []) (pos 0 ∷ negsuc 0 ∷ []) (negsuc 0) ∷ []) (negsuc 0) 1 (1 ∷ []) 1 (0 ∷ 0 ∷ 1 ∷ []) 1 S10-ranking),
       refused 41 0,
     ) ∷
     (lassoTold S10-loop (lasso S10-stem (negsuc 0) 1 (0 ∷ []) 1 (0 ∷ 0 ∷ 1 ∷ []) 1 S10-ranking), refused 42 1) ∷
@@ -90,8 +92,10 @@ computed =
     (numbers P S1 (pos 2 ∷ pos 1 ∷ []), record { r = pos 1 ∷ negsuc 0 ∷ []; δ0 = pos 2; δ = pos 1; at-x = 0 }) ∷ (
       numbers P (ranking (2 ∷ 0 ∷ 0 ∷ []) (0 ∷ 2 ∷ 2 ∷ [])) (pos 5 ∷ pos 1 ∷ []),
       record { r = pos 2 ∷ negsuc 1 ∷ []; δ0 = pos 4; δ = pos 2; at-x = 3 },
-    ) ∷
-    (numbers (longer S10-loop S10) S10-ranking (pos 5 ∷ pos 1 ∷ []), record { r = pos 1 ∷ pos 0 ∷ []; δ0 = pos 0; δ = pos 1; at-x = 6 }) ∷ (
+    ) ∷ (
+      numbers (longer S10-loop S10) S10-ranking (pos 5 ∷ pos 1 ∷ []),
+      record { r = pos 1 ∷ pos 0 ∷ []; δ0 = pos 0; δ = pos 1; at-x = 6 },
+    ) ∷ (
       numbers (over 1 (row (pos 0 ∷ []) (pos 0 ∷ []) (negsuc 0) ∷ [])) (ranking (0 ∷ []) (1 ∷ [])) (pos 7 ∷ []),
       record { r = pos 0 ∷ []; δ0 = pos 0; δ = pos 1; at-x = 1 },
     ) ∷

@@ -1,10 +1,10 @@
--- `judge_sums::add_product` meets its contract. Assumes nothing.
+-- `judge_along::add_product` meets its contract. Assumes nothing.
 use native.Mathlib.Omega.{arith}
 use Rattle.judge_sums.specs.Places.{entryAt, rightAt}
 use Rattle.judge_sums.proofs.RunningLaws.{may-add, added}
 use borrow.Author.Needs.{needs}
-use Rattle.judge_sums.proofs.add_product.Statement.{statement}
-use Rattle.judge_sums.proofs.add_product.Tie as tie
+use Rattle.judge_along.proofs.add_product.Statement.{statement}
+use Rattle.judge_along.proofs.add_product.Tie as tie
 
 i16-at-requires : tie.Need-i16-at-requires
 i16-at-requires c κs = search needs

@@ -1,8 +1,8 @@
--- `judge_sums::along` meets its contract. Assumes nothing.
-use Rattle.judge_sums.proofs.SideLaws.{direction-held, difference-held, step-held, direction-is, step-is}
+-- `judge_along::along` meets its contract. Assumes nothing.
+use Rattle.judge_along.proofs.SideLaws.{direction-held, difference-held, step-held, direction-is, step-is}
 use borrow.Author.Needs.{needs}
-use Rattle.judge_sums.proofs.along.Statement.{statement}
-use Rattle.judge_sums.proofs.along.Tie as tie
+use Rattle.judge_along.proofs.along.Statement.{statement}
+use Rattle.judge_along.proofs.along.Tie as tie
 
 -- ---- the places of this proof: the totals along the row, the direction's two terms, the difference's, and the step's
 

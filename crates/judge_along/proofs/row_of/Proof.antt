@@ -1,12 +1,12 @@
--- `judge_sums::row_of` meets its contract: before each turn the totals are those of the columns so far. Assumes nothing.
+-- `judge_along::row_of` meets its contract: before each turn the totals are those of the columns so far. Assumes nothing.
 use Prim.Native.Nat.{_-_, _≤_}
 use mathlib.Core.Path.{_≡_}
 use native.Mathlib.Omega.{arith}
-use Rattle.judge_sums.specs.Places.{AlongOf}
-use Rattle.judge_sums.proofs.ColumnLaws.{along-none, along-more}
+use Rattle.judge_along.specs.AlongRows.{AlongOf}
+use Rattle.judge_along.proofs.AlongLaws.{along-none, along-more}
 use borrow.Author.Needs.{needs}
-use Rattle.judge_sums.proofs.row_of.Statement.{statement}
-use Rattle.judge_sums.proofs.row_of.Tie as tie
+use Rattle.judge_along.proofs.row_of.Statement.{statement}
+use Rattle.judge_along.proofs.row_of.Tie as tie
 
 abbrev Inv-loop : tie.InvT-loop
 Inv-loop rows row n certificate place next v w sums₀ j₀ sums j =

@@ -1,4 +1,4 @@
--- `judge_sums::rank_at` meets its contract: before each turn the total is that of the entries so far. Assumes nothing.
+-- `judge_along::rank_at` meets its contract: before each turn the total is that of the entries so far. Assumes nothing.
 use Prim.Native.Nat.{ℕ, _-_, _≤_}
 use mathlib.Core.Path.{_≡_, refl, sym, _∙_}
 use mathlib.Core.List.{List}
@@ -6,12 +6,12 @@ use native.Mathlib.Omega.{arith}
 use lib.IntN.{ℤ, pos, _*ℤ_}
 use lib.ListN.{length, getD}
 use Rattle.whole.proofs.Tables.{dot-total}
-use Rattle.judge_sums.specs.Places.{mostRank}
+use Rattle.judge_along.specs.AlongRows.{mostRank}
 use Rattle.judge_sums.specs.Running.{SumOf}
 use Rattle.judge_sums.proofs.RunningLaws.{sum-none, sum-more, may-add, added}
 use borrow.Author.Needs.{needs}
-use Rattle.judge_sums.proofs.rank_at.Statement.{statement}
-use Rattle.judge_sums.proofs.rank_at.Tie as tie
+use Rattle.judge_along.proofs.rank_at.Statement.{statement}
+use Rattle.judge_along.proofs.rank_at.Tie as tie
 
 abbrev term : List ℤ → List ℤ → ℕ → ℤ
 term rank state j = getD rank j (pos 0) *ℤ getD state j (pos 0)

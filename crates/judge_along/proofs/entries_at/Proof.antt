@@ -1,15 +1,16 @@
--- `judge_sums::entries_at` meets its contract: before each turn the total is that of the entries so far. Assumes nothing.
+-- `judge_along::entries_at` meets its contract: before each turn the total is that of the entries so far. Assumes nothing.
 use Prim.Native.Nat.{_-_, _≤_}
 use mathlib.Core.Path.{_≡_, refl}
 use native.Mathlib.Omega.{arith}
 use lib.IntN.{pos}
 use lib.ListN.{length, getD}
-use Rattle.judge_sums.specs.Places.{entryAt, stateTerm, mostState}
+use Rattle.judge_sums.specs.Places.{entryAt}
+use Rattle.judge_along.specs.AlongRows.{stateTerm, mostState}
 use Rattle.judge_sums.specs.Running.{SumOf}
 use Rattle.judge_sums.proofs.RunningLaws.{sum-none, sum-more, may-add, added}
 use borrow.Author.Needs.{needs}
-use Rattle.judge_sums.proofs.entries_at.Statement.{statement}
-use Rattle.judge_sums.proofs.entries_at.Tie as tie
+use Rattle.judge_along.proofs.entries_at.Statement.{statement}
+use Rattle.judge_along.proofs.entries_at.Tie as tie
 
 abbrev Inv-loop : tie.InvT-loop
 Inv-loop bytes place state total₀ j₀ j-end total j =

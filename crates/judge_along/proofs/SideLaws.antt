@@ -1,4 +1,4 @@
--- The two left sides of an exclusion out of the four totals along a row: they fit 64 bits, and they are what specs/Places.antt defines.
+-- The two left sides of an exclusion out of the four totals along a row: they fit 64 bits, and they are what specs/AlongRows.antt defines.
 use Prim.Native.Nat.{ℕ, _^_, _<_}
 use mathlib.Core.Path.{_≡_}
 use mathlib.Core.List.{List}
@@ -7,8 +7,8 @@ use lib.IntN.{ℤ, natAbs, negℤ, _+ℤ_, _-ℤ_}
 use mir.Syntax.{w64}
 use mir.Val.{SFits, toZ, ofZ}
 use Rattle.whole.proofs.Size.{abs-add, abs-neg, fits-abs, back}
-use Rattle.judge_sums.specs.Places.{AlongOf, directionOf, stepOf}
+use Rattle.judge_along.specs.AlongRows.{AlongOf, directionOf, stepOf}
 use Rattle.judge_sums.specs.Running.{CanGrow}
 
 module _ {rows : List ℕ} {row n : ℕ} {certificate : List ℕ} {place : ℕ} {v u now next : ℤ}
     (sums : AlongOf rows row n certificate place n v u now next) (few : n < 16384) where
