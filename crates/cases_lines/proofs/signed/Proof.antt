@@ -1,4 +1,4 @@
--- `cases::signed` meets its contract. Assumes nothing.
+-- `cases_lines::signed` meets its contract. Assumes nothing.
 use mathlib.Core.Path.{_≡_}
 use Prim.Native.Nat.{_<_}
 use native.Mathlib.Omega.{arith}
@@ -8,8 +8,8 @@ use mir.Val.{toZ}
 use mir.Facts.{toZ-pos}
 use borrow.Author.Needs.{needs}
 use Rattle.whole.proofs.Size.{abs-neg, fits-abs}
-use Rattle.cases.proofs.signed.Statement.{statement}
-use Rattle.cases.proofs.signed.Tie as tie
+use Rattle.cases_lines.proofs.signed.Statement.{statement}
+use Rattle.cases_lines.proofs.signed.Tie as tie
 
 cast-result : tie.Need-cast-result
 cast-result c = search needs

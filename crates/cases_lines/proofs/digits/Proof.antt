@@ -1,10 +1,10 @@
--- `cases::digits` meets its contract. Assumes nothing.
+-- `cases_lines::digits` meets its contract. Assumes nothing.
 use Prim.Native.Nat.{_-_, _≤_}
 use mathlib.Core.Path.{_≡_}
 use lib.ListN.{length}
 use borrow.Author.Needs.{needs}
-use Rattle.cases.proofs.digits.Statement.{statement}
-use Rattle.cases.proofs.digits.Tie as tie
+use Rattle.cases_lines.proofs.digits.Statement.{statement}
+use Rattle.cases_lines.proofs.digits.Tie as tie
 
 abbrev Inv-loop : tie.InvT-loop
 Inv-loop line from at₀ size₀ at size = (from ≤ at) × (at ≤ length line)

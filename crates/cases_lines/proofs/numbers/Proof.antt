@@ -1,12 +1,12 @@
--- `cases::numbers` meets its contract. Assumes nothing.
+-- `cases_lines::numbers` meets its contract. Assumes nothing.
 use Prim.Native.Nat.{_-_, _≤_}
 use mathlib.Core.Path.{_≡_}
 use native.Mathlib.Omega.{arith}
 use lib.ListN.{length}
 use lib.ListN.{length-set}
 use borrow.Author.Needs.{needs}
-use Rattle.cases.proofs.numbers.Statement.{statement}
-use Rattle.cases.proofs.numbers.Tie as tie
+use Rattle.cases_lines.proofs.numbers.Statement.{statement}
+use Rattle.cases_lines.proofs.numbers.Tie as tie
 
 abbrev Inv-loop : tie.InvT-loop
 Inv-loop line from list₀ at₀ count₀ list at count = (at ≤ length line) × (count ≤ length list) × (length list ≡ length list₀)
