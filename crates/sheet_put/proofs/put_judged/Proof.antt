@@ -1,4 +1,4 @@
--- `sheet_write::put_judged` meets its contract. Assumes nothing.
+-- `sheet_put::put_judged` meets its contract. Assumes nothing.
 use mathlib.Core.Path.{_≡_, ap}
 use Prim.Native.Nat.{ℕ}
 use mathlib.Core.List.{List, [], _∷_, _++_}
@@ -17,8 +17,8 @@ use Rattle.judge.specs.SoundPairs.{LoopSound}
 use Rattle.judge.proofs.Entered.{loop-refused, loop-sound}
 use Rattle.sheet_lines.proofs.LineLaws.{loop-word}
 use Rattle.sheet_text.proofs.TextLaws.{judged-first, judged-sound, judged-refused}
-use Rattle.sheet_write.proofs.put_judged.Statement.{statement}
-use Rattle.sheet_write.proofs.put_judged.Tie as tie
+use Rattle.sheet_put.proofs.put_judged.Statement.{statement}
+use Rattle.sheet_put.proofs.put_judged.Tie as tie
 
 -- the text that is to be written
 abbrev text-of : tie.Start → List ℕ

@@ -1,4 +1,4 @@
--- `sheet_write::put_sheet` meets its contract. Assumes nothing.
+-- `sheet_put::put_sheet` meets its contract. Assumes nothing.
 use mathlib.Core.Path.{_≡_, sym, ap}
 use Prim.Native.Nat.{ℕ, _-_, _≤_}
 use mathlib.Core.List.{List}
@@ -12,8 +12,8 @@ use Rattle.verdict.specs.Pairs.{loop-record}
 use Rattle.sheet_text.specs.Sheets.{judged, sheet-text}
 use Rattle.record_parting.proofs.PartingLaws.{taken-within}
 use Rattle.sheet_text.proofs.TextLaws.{text-too-long-line, text-parted}
-use Rattle.sheet_write.proofs.put_sheet.Statement.{statement}
-use Rattle.sheet_write.proofs.put_sheet.Tie as tie
+use Rattle.sheet_put.proofs.put_sheet.Statement.{statement}
+use Rattle.sheet_put.proofs.put_sheet.Tie as tie
 
 -- the input is parted where the first record ends
 module _ (c : tie.After-first-end) where

@@ -1,4 +1,4 @@
--- `sheet_write::put_certificate` meets its contract: a fresh list of 16 zeros is lent to the judge, and the verdict's line is the certificate's. Assumes nothing.
+-- `sheet_put::put_certificate` meets its contract: a fresh list of 16 zeros is lent to the judge, and the verdict's line is the certificate's. Assumes nothing.
 use mathlib.Core.Path.{_≡_, sym}
 use Prim.Native.Nat.{_≤_}
 use native.Mathlib.Omega.{arith}
@@ -8,8 +8,8 @@ use borrow.Author.Needs.{needs}
 use Rattle.sheet_lines.specs.VerdictLines.{verdict-line}
 use Rattle.sheet_text.specs.Sheets.{lent, variables-in, certificate-line}
 use Rattle.sheet_text.proofs.WorstCase.{few-variables}
-use Rattle.sheet_write.proofs.put_certificate.Statement.{statement}
-use Rattle.sheet_write.proofs.put_certificate.Tie as tie
+use Rattle.sheet_put.proofs.put_certificate.Statement.{statement}
+use Rattle.sheet_put.proofs.put_certificate.Tie as tie
 
 -- the list that was lent has room for r
 enough : (c : tie.After-judge-sound) → c .before .before .before .before .before .args .n ≤ length (c .judge-sound .last .1 .1 .1 .1 .0)

@@ -1,4 +1,4 @@
--- `sheet_write::put_certificates` meets its contract: what is written and the lines of the bytes from `from` on are together all lines. The measure is
+-- `sheet_put::put_certificates` meets its contract: what is written and the lines of the bytes from `from` on are together all lines. The measure is
 -- how many bytes are left. Assumes nothing.
 use mathlib.Core.Path.{_≡_, refl, sym, _∙_}
 use Prim.Native.Nat.{ℕ, _+_, _-_, _≤_, _<_}
@@ -12,8 +12,8 @@ use Rattle.record_parting.specs.Parting.{taken, records}
 use Rattle.sheet_text.specs.Sheets.{certificate-line, lines}
 use Rattle.record_parting.proofs.PartingLaws.{taken-within, taken-some}
 use Rattle.sheet_text.proofs.TextLaws.{lines-none, lines-turn}
-use Rattle.sheet_write.proofs.put_certificates.Statement.{statement}
-use Rattle.sheet_write.proofs.put_certificates.Tie as tie
+use Rattle.sheet_put.proofs.put_certificates.Statement.{statement}
+use Rattle.sheet_put.proofs.put_certificates.Tie as tie
 
 abbrev Inv-loop : tie.InvT-loop
 Inv-loop text₀ place loopbytes n m certificates at₀ from₀ count₀ text at from count =
