@@ -1,4 +1,4 @@
--- `record_read::read_lasso` meets its contract. Assumes nothing.
+-- `record_values::read_lasso` meets its contract. Assumes nothing.
 use mathlib.Core.Path.{refl, sym, ap, _∙_}
 use Prim.Native.Nat.{_+_, _*_}
 use mathlib.Core.List.{[], _∷_, _++_}
@@ -12,8 +12,8 @@ use Rattle.record_fields.proofs.Forms.{values-run, weights-numbers}
 use Rattle.record_fields.proofs.BodyParts.{widths-linear, length-linear, length-rows}
 use Rattle.record_fields.proofs.Readings.{read-both}
 use borrow.Author.Needs.{needs}
-use Rattle.record_read.proofs.read_lasso.Statement.{statement}
-use Rattle.record_read.proofs.read_lasso.Tie as tie
+use Rattle.record_values.proofs.read_lasso.Statement.{statement}
+use Rattle.record_values.proofs.read_lasso.Tie as tie
 
 mul-place : tie.Need-mul-place
 mul-place c = search needs

@@ -1,4 +1,4 @@
--- `record_read::read_exclusion` meets its contract. Assumes nothing.
+-- `record_values::read_exclusion` meets its contract. Assumes nothing.
 use mathlib.Core.Path.{refl, ap, _∙_}
 use Prim.Native.Nat.{_*_}
 use mathlib.Core.List.{[], _∷_}
@@ -9,8 +9,8 @@ use Rattle.record.specs.Layouts.{scale, direction}
 use Rattle.record_fields.proofs.Forms.{values-run}
 use Rattle.record_fields.proofs.Readings.{read-both}
 use borrow.Author.Needs.{needs}
-use Rattle.record_read.proofs.read_exclusion.Statement.{statement}
-use Rattle.record_read.proofs.read_exclusion.Tie as tie
+use Rattle.record_values.proofs.read_exclusion.Statement.{statement}
+use Rattle.record_values.proofs.read_exclusion.Tie as tie
 
 read-u16s-requires : tie.Need-read-u16s-requires
 read-u16s-requires c κs = search needs

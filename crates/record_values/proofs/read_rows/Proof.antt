@@ -1,4 +1,4 @@
--- `record_read::read_rows` meets its contract. Assumes nothing.
+-- `record_values::read_rows` meets its contract. Assumes nothing.
 use mathlib.Core.Path.{refl, sym, ap, _∙_}
 use Prim.Native.Nat.{_+_, _*_, _-_, _≤_, _<_}
 use native.Mathlib.Omega.{arith}
@@ -11,8 +11,8 @@ use Rattle.record.proofs.FieldLaws.{length-values}
 use Rattle.record_fields.proofs.Copies.{Copy, copy-start, copy-there, copy-more, copy-end}
 use Rattle.record_fields.proofs.BodyParts.{row-is, length-row}
 use Rattle.record_fields.proofs.Readings.{read-row}
-use Rattle.record_read.proofs.read_rows.Statement.{statement}
-use Rattle.record_read.proofs.read_rows.Tie as tie
+use Rattle.record_values.proofs.read_rows.Statement.{statement}
+use Rattle.record_values.proofs.read_rows.Tie as tie
 
 abbrev Inv-loop : tie.InvT-loop
 Inv-loop bytes place n count values₀ index at₀ i₀ left₀ values at i left = Copy (λ k. held (rowsOf n k)) (4 * n + 4) (2 * n + 1) bytes place count values₀ index values at i left

@@ -1,4 +1,4 @@
--- `record_read::read_i16s` meets its contract. Assumes nothing.
+-- `record_values::read_i16s` meets its contract. Assumes nothing.
 use mathlib.Core.Path.{refl}
 use Prim.Native.Nat.{_+_, _≤_, _<_}
 use native.Mathlib.Omega.{arith}
@@ -9,8 +9,8 @@ use Rattle.endian.specs.Numbers.{littleAt}
 use Rattle.record.specs.Fields.{i16, width, number}
 use Rattle.record_fields.specs.Runs.{numbers}
 use Rattle.record_fields.proofs.Copies.{Copy, copy-start, copy-there, number-more, number-end}
-use Rattle.record_read.proofs.read_i16s.Statement.{statement}
-use Rattle.record_read.proofs.read_i16s.Tie as tie
+use Rattle.record_values.proofs.read_i16s.Statement.{statement}
+use Rattle.record_values.proofs.read_i16s.Tie as tie
 
 abbrev Inv-loop : tie.InvT-loop
 Inv-loop bytes place count values₀ index at₀ i₀ left₀ values at i left = Copy (numbers i16) 2 1 bytes place count values₀ index values at i left

@@ -1,4 +1,4 @@
--- `record_read::read_linear` meets its contract. Assumes nothing.
+-- `record_values::read_linear` meets its contract. Assumes nothing.
 use mathlib.Core.Path.{refl, ap, _∙_}
 use Prim.Native.Nat.{_+_, _*_}
 use mathlib.Core.List.{[], _∷_}
@@ -12,8 +12,8 @@ use Rattle.record_fields.specs.Runs.{linear}
 use Rattle.record_fields.proofs.Forms.{values-run}
 use Rattle.record_fields.proofs.Readings.{read-both}
 use borrow.Author.Needs.{needs}
-use Rattle.record_read.proofs.read_linear.Statement.{statement}
-use Rattle.record_read.proofs.read_linear.Tie as tie
+use Rattle.record_values.proofs.read_linear.Statement.{statement}
+use Rattle.record_values.proofs.read_linear.Tie as tie
 
 read-i16s-requires : tie.Need-read-i16s-requires
 read-i16s-requires c κs = search needs

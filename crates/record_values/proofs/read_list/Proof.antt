@@ -1,4 +1,4 @@
--- `record_read::read_list` meets its contract: the kind number decides. Assumes nothing.
+-- `record_values::read_list` meets its contract: the kind number decides. Assumes nothing.
 use mathlib.Core.Path.{ap, _∙_}
 use Prim.Native.Nat.{_+_, _*_, _≤_}
 use native.Mathlib.Omega.{arith}
@@ -7,10 +7,10 @@ use lib.Seq.{sets}
 use Rattle.record.specs.Layouts.{kindOf, lengthOf}
 use Rattle.record_fields.specs.Runs.{value-count}
 use Rattle.record.proofs.KindLaws.{other-kind}
-use Rattle.record_read.proofs.ReadLists.{list-1, list-2, list-3, list-4, list-other}
+use Rattle.record_values.proofs.ReadLists.{list-1, list-2, list-3, list-4, list-other}
 use borrow.Author.Needs.{needs}
-use Rattle.record_read.proofs.read_list.Statement.{statement}
-use Rattle.record_read.proofs.read_list.Tie as tie
+use Rattle.record_values.proofs.read_list.Statement.{statement}
+use Rattle.record_values.proofs.read_list.Tie as tie
 
 sized-1 : (c : tie.At-match-keys1) → (let a = c .before .before .args in (10 + a .m * (4 * a .n + 4) ≤ length (a .bytes .now)) × (0 + a .m * (2 * a .n + 1) ≤ length (a .values .now)))
 unfolding kindOf lengthOf value-count

@@ -8,7 +8,7 @@ use Rattle.record.specs.Layouts.{other, kindOf, is-loop, Counts, variable-count
 use Rattle.record_fields.specs.Runs.{linear, weights, numbers}
 use Rattle.record_fields.proofs.Forms.{values-run}
 use Rattle.record_fields.proofs.BodyParts.{ranking-is, exclusion-is, lasso-is}
-use Rattle.record_read.specs.Unpacks.{list-of}
+use Rattle.record_values.specs.ListsHeld.{list-of}
 
 module _ (bytes : List ℕ) (kind : ℕ) (c : Counts) where
   pub list-1 : kind ≡ 1 → values (rowsOf (c .n) (c .m)) (drop 10 bytes) ≡ list-of bytes kind c
