@@ -1,4 +1,4 @@
--- Exclusions row by row: the left sides that crate `judge_sums` gives are those of the theory, and a loop over the rows decides the conditions of all of them.
+-- Exclusions row by row: the left sides that crate `judge_along` gives are those of the theory, and a loop over the rows decides the conditions of all of them.
 use mathlib.Core.Path.{_≡_}
 use Prim.Native.Nat.{ℕ, _+_, _*_, _<_}
 use mathlib.Core.Bool.{true, false}
@@ -16,9 +16,10 @@ use Rattle.whole.proofs.EachLaws.{each-at}
 use Rattle.whole.proofs.Tables.{length-tabulate, tabulate-at, each-tabulate}
 use Rattle.endian.specs.Numbers.{littleAt}
 use Rattle.judge_sums.specs.Lists.{rowFrom, rowsFrom}
-use Rattle.judge_sums.specs.Places.{rightAt, rowPlace, directionOf, stepOf}
+use Rattle.judge_sums.specs.Places.{rightAt, rowPlace}
 use Rattle.judge_sums.specs.Running.{CanGrow}
-use Rattle.judge_sums.proofs.ListLaws.{direction-dot, step-dot}
+use Rattle.judge_along.specs.AlongRows.{directionOf, stepOf}
+use Rattle.judge_along.proofs.AlongLists.{direction-dot, step-dot}
 use Rattle.theory.specs.Exclusions.{ExclusionHolds}
 use Rattle.judge_conditions.specs.Whether.{Whether}
 use Rattle.judge_exclusion.specs.ExclusionHeld.{RowExcluded}

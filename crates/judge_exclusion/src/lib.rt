@@ -14,7 +14,7 @@ fn row_excluded(rows: &[u8], row: usize, n: usize, certificate: &[u8]) -> bool
     requires { ⌜ (row + (4 * n + 4) ≤ length (now rows)) × (8 + 12 * n ≤ length (now certificate)) × (n ≤ 16) ⌝ }
     ensures { λ r. ⌜ Whether r (RowExcluded (exclusion-held (now (certificate .entry)) n) (rowFrom (now (rows .entry)) n row)) ⌝ }
 {
-    let sides = judge_sums::along(rows, row, n, certificate, 8);
+    let sides = judge_along::along(rows, row, n, certificate, 8);
     let right = judge_conditions::times(
         endian::u16_at(certificate, 6),
         endian::i32_at(rows, row + 4 * n),

@@ -12,5 +12,14 @@ use Rattle.verdict.specs.Stages as Stages
 use Rattle.verdict.specs.StateTests as StateTests
 
 unfoldable pub computing : Unit {0}
-unfolding Records.computing Conditions._at-each_unless_ Conditions.rankingTests Conditions.exclusionTests Conditions.of Conditions.lassoTests Conditions.rankingTold Conditions.exclusionTold Conditions.lassoTold Rankings.rank Rankings.start Rankings.fall Rankings.bound Sums.dot Sums.sum Sums.tabulate Sums.scale Sums.add Sums.less StateTests.before-outside StateTests.state-tests Bounding.invariant Bounding.bounding Bounding.bounded Bounding.bounds Bounding.bound-of Contents.rows-from Contents.ranking-from Contents.exclusion-from Contents.lasso-from Contents.loop-in Contents.ranking-in Contents.exclusion-in Contents.lasso-in Judging.rank-room Judging.judging Judging.judges Judging.ranks Judging.rank-after Judging.judge-of Outcomes.grade-number Outcomes.numbers Outcomes.grade-of Pairs.loop-record Pairs.certificate-record Pairs.kind-of Pairs.variables-of Pairs.folded Pairs.conditions-told Pairs.conditions Pairs.ranked-loop Pairs.ranking-of Pairs.rank-of Pairs.start-of Pairs.fall-of Pairs.outcome-of Stages.said Stages.verdict-of
+unfolding
+    Records.computing Conditions._at-each_unless_ Conditions.rankingTests Conditions.exclusionTests Conditions.of
+    Conditions.lassoTests Conditions.rankingTold Conditions.exclusionTold Conditions.lassoTold Rankings.rank Rankings.start
+    Rankings.fall Rankings.bound Sums.dot Sums.sum Sums.tabulate Sums.scale Sums.add Sums.less StateTests.before-outside
+    StateTests.state-tests Bounding.invariant Bounding.bounding Bounding.bounded Bounding.bounds Bounding.bound-of
+    Contents.rows-from Contents.ranking-from Contents.exclusion-from Contents.lasso-from Contents.loop-in Contents.ranking-in
+    Contents.exclusion-in Contents.lasso-in Judging.rank-room Judging.judging Judging.judges Judging.ranks Judging.rank-after
+    Judging.judge-of Outcomes.grade-number Outcomes.numbers Outcomes.grade-of Pairs.loop-record Pairs.certificate-record
+    Pairs.kind-of Pairs.variables-of Pairs.folded Pairs.conditions-told Pairs.conditions Pairs.ranked-loop Pairs.ranking-of
+    Pairs.rank-of Pairs.start-of Pairs.fall-of Pairs.outcome-of Stages.said Stages.verdict-of
 computing = tt
