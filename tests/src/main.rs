@@ -4,19 +4,21 @@
 //!
 //! The last line is `cases N, disagreements D`. The exit is not 0 if there is a disagreement, or if a run of at least
 //! 200,000 cases leaves a quota unmet. A case that disagrees is printed with its index; `--first INDEX --cases 1` runs
-//! it again.
+//! it again. The cases are shared out among the cores; what is counted and printed is the same with any number of them.
 
 use second_opinion::cases::case;
 use second_opinion::compare::{archive, difference, expected};
 use second_opinion::random::Random;
 use second_opinion::tally::Tally;
+use std::ops::Range;
 use std::process::ExitCode;
+use std::thread;
 use std::time::Instant;
 
 /// Quotas are asked of runs of at least so many cases.
 const WHOLE_RUN: u64 = 200_000;
 /// So many disagreements are printed.
-const PRINTED: u64 = 10;
+const PRINTED: usize = 10;
 
 struct Options {
     cases: u64,
@@ -44,22 +46,65 @@ fn options() -> Result<Options, String> {
     Ok(options)
 }
 
-/// Runs one case; false if the two opinions differ.
-fn agrees(seed: u64, index: u64, tally: &mut Tally, print: bool) -> bool {
-    let mut random = Random::of_case(seed, index);
-    let case = case(&mut random);
-    let shift = random.below(8);
-    let paper = expected(&case);
-    let archive = archive(&case, shift);
-    tally.count(&case, &paper);
-    if paper == archive {
-        return true;
+/// What came of some cases: counts, how many disagree, and the first of these in words.
+#[derive(Default)]
+struct Compared {
+    tally: Tally,
+    disagreements: u64,
+    printed: Vec<String>,
+}
+
+impl Compared {
+    /// Runs one case.
+    fn run(&mut self, seed: u64, index: u64) {
+        let mut random = Random::of_case(seed, index);
+        let case = case(&mut random);
+        let shift = random.below(8);
+        let paper = expected(&case);
+        let archive = archive(&case, shift);
+        self.tally.count(&case, &paper);
+        if paper == archive {
+            return;
+        }
+        self.disagreements += 1;
+        if self.printed.len() < PRINTED {
+            let differs = difference(&paper, &archive);
+            self.printed
+                .push(format!("case {index}: {differs}\n{case:?}"));
+        }
     }
-    if print {
-        println!("case {index}: {}", difference(&paper, &archive));
-        println!("{case:?}");
+
+    /// Runs cases one after another.
+    fn of(seed: u64, indices: Range<u64>) -> Compared {
+        let mut compared = Compared::default();
+        indices.for_each(|index| compared.run(seed, index));
+        compared
     }
-    false
+
+    /// Adds what came of the cases that follow.
+    fn add(&mut self, later: Compared) {
+        self.tally.add_all(later.tally);
+        self.disagreements += later.disagreements;
+        self.printed.extend(later.printed);
+        self.printed.truncate(PRINTED);
+    }
+}
+
+/// Runs all cases, each core a stretch of them.
+fn compare(options: &Options) -> Compared {
+    let Options { cases, seed, first } = *options;
+    let cores = thread::available_parallelism().map_or(1, |cores| cores.get() as u64);
+    let start = |share: u64| first + cases * share / cores;
+    thread::scope(|scope| {
+        let running: Vec<_> = (0..cores)
+            .map(|share| scope.spawn(move || Compared::of(seed, start(share)..start(share + 1))))
+            .collect();
+        let mut all = Compared::default();
+        for share in running {
+            all.add(share.join().expect("no case panics"));
+        }
+        all
+    })
 }
 
 fn main() -> ExitCode {
@@ -71,13 +116,12 @@ fn main() -> ExitCode {
         }
     };
     let begun = Instant::now();
-    let mut tally = Tally::default();
-    let mut disagreements = 0;
-    for index in options.first..options.first + options.cases {
-        if !agrees(options.seed, index, &mut tally, disagreements < PRINTED) {
-            disagreements += 1;
-        }
-    }
+    let Compared {
+        tally,
+        disagreements,
+        printed,
+    } = compare(&options);
+    printed.iter().for_each(|lines| println!("{lines}"));
     tally.print();
     let mut unmet = Vec::new();
     if options.cases >= WHOLE_RUN {

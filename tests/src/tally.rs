@@ -138,6 +138,15 @@ impl Tally {
         *self.counts.entry((call, name)).or_insert(0) += 1;
     }
 
+    /// Adds what another tally has counted.
+    pub fn add_all(&mut self, other: Tally) {
+        self.cases += other.cases;
+        self.accepted += other.accepted;
+        for (name, count) in other.counts {
+            *self.counts.entry(name).or_insert(0) += count;
+        }
+    }
+
     /// Prints all counts.
     pub fn print(&self) {
         for (call, _) in QUOTAS {
