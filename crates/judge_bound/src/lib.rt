@@ -40,7 +40,7 @@ fn bound_at(entries: &[i64], n: usize, start: i64, fall: i64, state: &[i64]) -> 
     requires { ⌜ BoundFits (now entries) n start fall (now state) × (n ≤ 16) × (length (now state) ≡ n) ⌝ }
     ensures { λ r. ⌜ r ≡ Rankings.bound (take n (now (entries .entry))) start fall (now (state .entry)) ⌝ }
 {
-    let value = judge_sums::rank_at(&entries[..n], state);
+    let value = judge_along::rank_at(&entries[..n], state);
     steps(value.sum, start, fall)
 }
 
@@ -50,7 +50,7 @@ fn meets_invariant(certificate: &[u8], n: usize, m: usize, ms: usize, state: &[i
     ensures { λ r. ⌜ r ≡ invariant-held (now (certificate .entry)) n m ms (now (state .entry)) ⌝ }
 {
     let s = 8 + ms * (4 * n + 4);
-    let reached = judge_sums::entries_at(certificate, s, state);
+    let reached = judge_along::entries_at(certificate, s, state);
     let right = endian::i32_at(certificate, s + 2 * n);
     0 <= reached.sum + right
 }

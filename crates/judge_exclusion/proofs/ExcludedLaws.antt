@@ -1,4 +1,4 @@
--- Exclusions row by row: the left sides that crate `judge_sums` gives are those of the theory, and a walk over the rows tells what their
+-- Exclusions row by row: the left sides that crate `judge_along` gives are those of the theory, and a walk over the rows tells what their
 -- order of tests does.
 use mathlib.Core.Path.{_≡_, sym, ap, ap₂, _∙_}
 use Prim.Native.Nat.{ℕ, _+_, _*_, _≤_, _<_}
@@ -17,9 +17,10 @@ use Rattle.whole.specs.Rows.{Row}
 use Rattle.whole.proofs.Tables.{length-tabulate, tabulate-at}
 use Rattle.endian.specs.Numbers.{littleAt}
 use Rattle.judge_sums.specs.Lists.{rowFrom, rowsFrom}
-use Rattle.judge_sums.specs.Places.{rightAt, rowPlace, directionOf, stepOf}
+use Rattle.judge_sums.specs.Places.{rightAt, rowPlace}
 use Rattle.judge_sums.specs.Running.{CanGrow}
-use Rattle.judge_sums.proofs.ListLaws.{direction-dot, step-dot}
+use Rattle.judge_along.specs.AlongRows.{directionOf, stepOf}
+use Rattle.judge_along.proofs.AlongLists.{direction-dot, step-dot}
 use Rattle.theory.specs.Conditions.{exclusionTold}
 use Rattle.theory.proofs.InOrder.{exclusion-in-order}
 use Rattle.judge_conditions.specs.LoopHeld.{loop-held}

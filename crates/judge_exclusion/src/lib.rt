@@ -24,7 +24,7 @@ fn row_holds(rows: &[u8], row: usize, n: usize, certificate: &[u8]) -> RowHolds
     ensures { λ r. ⌜ (r .direction ≡ stays (exclusion-held (now (certificate .entry)) n) (rowFrom (now (rows .entry)) n row))
         × (r .step ≡ meets (exclusion-held (now (certificate .entry)) n) (rowFrom (now (rows .entry)) n row)) ⌝ }
 {
-    let sides = judge_sums::along(rows, row, n, certificate, 8);
+    let sides = judge_along::along(rows, row, n, certificate, 8);
     let right = judge_conditions::times(
         endian::u16_at(certificate, 6),
         endian::i32_at(rows, row + 4 * n),

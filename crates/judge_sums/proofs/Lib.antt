@@ -2,5 +2,4 @@ pub mod ColumnLaws
 pub mod LiftLaws
 pub mod ListLaws
 pub mod Sample
-pub mod SideLaws
 pub mod RunningLaws

@@ -1,11 +1,11 @@
--- The definitions of places and terms, computed: 01's loop P with its first certificate, and S7's exclusion at the loop's second row.
+-- The definitions of places and terms, computed: 01's loop P with its first certificate.
 use Prim.Native.Nat.{ℕ}
 use mathlib.Core.Path.{_≡_, refl}
 use mathlib.Core.List.{List, [], _∷_}
 use lib.IntN.{ℤ, pos, negsuc}
 use Rattle.endian.specs.Numbers.{little, littleAt, signed}
 use Rattle.whole.specs.Sums.{total}
-use Rattle.judge_sums.specs.Places.{entryAt, rightAt, multiplierAt, nowTerm, nextTerm, rightTerm, alongTerm, directionOf, stepOf}
+use Rattle.judge_sums.specs.Places.{entryAt, rightAt, multiplierAt, nowTerm, nextTerm, rightTerm}
 
 -- -p + q <= -2; -p + p' <= -1; q - q' <= 0, with Y = (1,0,0) and Z = (0,1,1)
 abbrev P-loop : List ℕ
@@ -33,11 +33,3 @@ columns-of-P = (refl, refl)
 pub rights-of-P : (total 3 (rightTerm P-ranking 6 P-loop 10 2) ≡ negsuc 1) × (total 3 (rightTerm P-ranking 12 P-loop 10 2) ≡ negsuc 0)
 unfolding total rightTerm multiplierAt rightAt littleAt little signed
 rights-of-P = (refl, refl)
-
--- 2x + x' <= 10, with U -2, V 1, W 4: the direction stays, and the step from 3 to 4 meets it
-pub sides-of-S7 :
-    let row : List ℕ = 2 ∷ 0 ∷ 1 ∷ 0 ∷ 10 ∷ 0 ∷ 0 ∷ 0 ∷ [] in
-    let certificate : List ℕ = 254 ∷ 255 ∷ 255 ∷ 255 ∷ 1 ∷ 0 ∷ 0 ∷ 0 ∷ 4 ∷ 0 ∷ 0 ∷ 0 ∷ [] in
-    (directionOf row 0 1 certificate 0 ≡ pos 0) × (stepOf row 0 1 certificate 0 ≡ pos 10)
-unfolding total directionOf stepOf alongTerm entryAt rightAt littleAt little signed
-sides-of-S7 = (refl, refl)

@@ -1,6 +1,6 @@
--- The numbers of a judge's sums by their places in the records' bytes, and the terms that the sums are made of (01, "Records on file"
--- and "Conditions"). Rows over n variables lie one after another from `start` on, each n entries of A, n of A' and b; multipliers lie
--- one after another from `place` on.
+-- The numbers of a judge's sums by their places in the records' bytes, and the terms of sums over rows (01, "Records on file" and
+-- "Conditions"). Rows over n variables lie one after another from `start` on, each n entries of A, n of A' and b; multipliers lie one
+-- after another from `place` on.
 use Prim.Native.Nat.{ℕ, _+_, _*_, _≤_, _<_}
 use mathlib.Core.List.{List}
 use mathlib.Core.Path.{_≡_}
@@ -26,7 +26,7 @@ multiplierAt bytes place = pos (littleAt 2 bytes place)
 abbrev pub rowPlace : ℕ → ℕ → ℕ → ℕ
 rowPlace start n i = start + i * (4 * n + 4)
 
--- ---- terms: of row i in a sum over rows, of column j in a sum along a row
+-- ---- terms: of row i in a sum over rows
 
 -- multiplier times entry j of A
 unfoldable pub nowTerm : List ℕ → ℕ → List ℕ → ℕ → ℕ → ℕ → ℕ → ℤ
@@ -41,29 +41,12 @@ nextTerm multipliers place rows start n j i =
 unfoldable pub rightTerm : List ℕ → ℕ → List ℕ → ℕ → ℕ → ℕ → ℤ
 rightTerm multipliers place rows start n i = multiplierAt multipliers (place + 2 * i) *ℤ rightAt rows (rowPlace start n i + 4 * n)
 
--- entry times entry: of A or A' from `entries` on, and of U, V or W from `place` on
-unfoldable pub alongTerm : List ℕ → ℕ → List ℕ → ℕ → ℕ → ℤ
-alongTerm rows entries certificate place j = entryAt rows (entries + 2 * j) *ℤ rightAt certificate (place + 4 * j)
-
--- entry of s from `place` on, times the state's entry
-unfoldable pub stateTerm : List ℕ → ℕ → List ℤ → ℕ → ℤ
-stateTerm bytes place state j = entryAt bytes (place + 2 * j) *ℤ getD state j (pos 0)
-
--- the size of a term at the most: of nowTerm and nextTerm, of rightTerm, of alongTerm, of stateTerm, and of a rank's entry times a state's
+-- the size of a term at the most: of nowTerm and nextTerm, and of rightTerm
 abbrev pub mostEntry : ℕ
 mostEntry = 65535 * 32768
 
 abbrev pub mostRight : ℕ
 mostRight = 65535 * 2147483648
-
-abbrev pub mostAlong : ℕ
-mostAlong = 32768 * 2147483648
-
-abbrev pub mostState : ℕ
-mostState = 32768 * 1048576
-
-abbrev pub mostRank : ℕ
-mostRank = 274877906944 * 1048576
 
 -- ---- what lies in the bytes. The counts are small enough for every sum, and for the sum of three of them, to fit 64 bits
 
@@ -131,24 +114,5 @@ AllNone width sums = (k : ℕ) → k < width → getD sums k (pos 0) ≡ pos 0
 pub record SumsOf (multipliers : List ℕ) (place : ℕ) (rows : List ℕ) (start n count : ℕ) (sums : List ℤ) : Type 0 where
   pub lift-small : natAbs (total count (liftTerm multipliers place)) ≤ count * mostEntry
   pub each : (k : ℕ) → k < 2 * n
-      → SumOf count mostEntry (entryTerm multipliers place rows start n k) (getD sums k (pos 0) -ℤ total count (liftTerm multipliers place))
-
--- ---- along one row: A·V, A'·U, A·W and A'·W over the first `count` columns. A starts at `row`, and U, then V, then W, n entries each,
--- at `place`
-
-pub record AlongOf (rows : List ℕ) (row n : ℕ) (certificate : List ℕ) (place count : ℕ) (v u now next : ℤ) : Type 0 where
-  pub v-sum : SumOf count mostAlong (alongTerm rows row certificate (place + 4 * n)) v
-  pub u-sum : SumOf count mostAlong (alongTerm rows (row + 2 * n) certificate place) u
-  pub now-sum : SumOf count mostAlong (alongTerm rows row certificate (place + 8 * n)) now
-  pub next-sum : SumOf count mostAlong (alongTerm rows (row + 2 * n) certificate (place + 8 * n)) next
-
--- A·V + A'·U
-unfoldable pub directionOf : List ℕ → ℕ → ℕ → List ℕ → ℕ → ℤ
-directionOf rows row n certificate place =
-    total n (alongTerm rows row certificate (place + 4 * n)) +ℤ total n (alongTerm rows (row + 2 * n) certificate place)
-
--- A·(W - V) + A'·W, with A·(W - V) as A·W - A·V
-unfoldable pub stepOf : List ℕ → ℕ → ℕ → List ℕ → ℕ → ℤ
-stepOf rows row n certificate place =
-    (total n (alongTerm rows row certificate (place + 8 * n)) -ℤ total n (alongTerm rows row certificate (place + 4 * n)))
-    +ℤ total n (alongTerm rows (row + 2 * n) certificate (place + 8 * n))
+      → SumOf count mostEntry (entryTerm multipliers place rows start n k)
+      (getD sums k (pos 0) -ℤ total count (liftTerm multipliers place))

@@ -1,3 +1,2 @@
-pub mod ReadLists
 pub mod Unpacked
 pub mod OneAnswer

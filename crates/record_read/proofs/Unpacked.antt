@@ -22,7 +22,8 @@ use Rattle.record_check.specs.declared.Checked.{Checked}
 use Rattle.record_check.specs.Checks.{checked, checks}
 use Rattle.record.proofs.SoundRecords.{counts-small}
 use Rattle.record_check.proofs.CheckAnswers.{accepted, accepted-is, refused-so, sound-record}
-use Rattle.record_read.specs.Unpacks.{refusal, list-of, counts-of, Sized, unpacked, unpacks}
+use Rattle.record_values.specs.ListsHeld.{list-of}
+use Rattle.record_read.specs.Unpacks.{refusal, counts-of, Sized, unpacked, unpacks}
 
 -- ---- the ways through `unpack`
 

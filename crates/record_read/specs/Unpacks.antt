@@ -7,18 +7,14 @@ use lib.Dec.{eqb, ltb}
 use lib.IntN.{ℤ}
 use lib.ListN.{length, drop}
 use Rattle.record.specs.declared.Reading.{Reading}
-use Rattle.record.specs.Fields.{widths, values}
-use Rattle.record.specs.Layouts.{kindOf, is-loop, Counts, lengthOf, ahead, listed}
+use Rattle.record.specs.Layouts.{kindOf, is-loop, Counts, lengthOf}
 use Rattle.record_fields.specs.Runs.{value-count}
+use Rattle.record_values.specs.ListsHeld.{list-of}
 use Rattle.record_check.specs.declared.Checked.{Checked}
 
 -- a refusal: all but number and place are 0
 abbrev pub refusal : ℕ → ℕ → Reading
 refusal number place = record { number = number; place = place; kind = 0; n = 0; m = 0; count = 0 }
-
--- the list of values of a record with these counts
-unfoldable pub list-of : List ℕ → ℕ → Counts → List ℤ
-list-of bytes kind c = values (listed (kindOf kind) c) (drop (6 + widths (ahead (kindOf kind))) bytes)
 
 abbrev pub counts-of : Checked → Counts
 counts-of v = record { n = v .n; m = v .m; ms = v .ms }

@@ -35,12 +35,12 @@ pub fn first_part(input: &[u8], room: &mut [u8]) -> Part
     ensures { λ r. ⌜ Begins (sheet-text (now (input .entry))) (now (input .entry)) (now (room .exit)) r ⌝ }
 {
     if input.len() > 65536 {
-        let written = sheet_write::put_sheet(room, input);
+        let written = sheet_put::put_sheet(room, input);
         return last_part(input, written);
     }
     let end = record_parting::first_end(input);
     let loopbytes = &input[..end];
-    let written = sheet_write::put_judged(room, loopbytes, &input[..0]);
+    let written = sheet_put::put_judged(room, loopbytes, &input[..0]);
     let found = record_check::check_loop(loopbytes);
     if found.number != 0 {
         return last_part(input, written);
@@ -75,15 +75,7 @@ pub fn next_part(input: &[u8], last: Part, room: &mut [u8]) -> Part
         }
         let rest = &input[place..];
         let size = record_parting::first_end(rest);
-        written = sheet_write::put_certificate(
-            room,
-            written,
-            loopbytes,
-            n,
-            m,
-            count,
-            &rest[..size],
-        );
+        written = sheet_put::put_certificate(room, written, loopbytes, n, m, count, &rest[..size]);
         place += size;
         count += 1;
     }

@@ -7,5 +7,9 @@ use Rattle.record_parting.specs.Parting as Parting
 use Rattle.sheet_text.specs.Sheets as Sheets
 
 unfoldable pub computing : Unit {0}
-unfolding Verdicts.computing Decimals.figures Decimals.decimal Decimals.signed-decimal Words.bytes Words.line Parting.stated Parting.whole-first Parting.taken Parting.first-record Parting.after-first Parting.up-to Parting.records VerdictLines.rank-words VerdictLines.outcome-words VerdictLines.verdict-line Sheets.lent Sheets.variables-in Sheets.rows-in Sheets.certificate-line Sheets.lines Sheets.judged Sheets.sheet-text
+unfolding
+    Verdicts.computing Decimals.figures Decimals.decimal Decimals.signed-decimal Words.bytes Words.line Parting.stated
+    Parting.whole-first Parting.taken Parting.first-record Parting.after-first Parting.up-to Parting.records
+    VerdictLines.rank-words VerdictLines.outcome-words VerdictLines.verdict-line Sheets.lent Sheets.variables-in
+    Sheets.rows-in Sheets.certificate-line Sheets.lines Sheets.judged Sheets.sheet-text
 computing = tt

@@ -1,1 +1,1 @@
-// The text of a sheet as a function of its input, and how long it can be: definitions and theorems only. `sheet_write` puts it into a room.
+// The text of a sheet as a function of its input, and how long it can be: definitions and theorems only. `sheet_put` puts it into a room.

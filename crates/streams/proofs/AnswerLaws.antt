@@ -49,6 +49,11 @@ step-failed (pos zero) most error above some = absurd (some refl)
 step-failed (pos (suc count)) most error above some = never (sym above ∙ lt-ltb 0 (suc count) (omega arith))
 step-failed (negsuc count) most error above some = refl
 
+-- single answers: the end, an interrupted call, a moment's emptiness, and a failure (EIO is 5)
+pub answers-told : (step-of (pos 0) 8 (pos 4) ≡ Nothing) × (step-of (negsuc 0) 8 (pos 4) ≡ Again) × (step-of (negsuc 0) 8 (pos 11) ≡ Again) × (step-of (negsuc 0) 8 (pos 5) ≡ Failed)
+unfolding step-of passes
+answers-told = (refl, refl, refl, refl)
+
 -- ---- how far
 
 -- a step that moved bytes moved no more than the rest of a list has

@@ -5,6 +5,7 @@ use Prim.Native.Nat.{ℕ}
 use mathlib.Core.List.{List, [], _∷_}
 use lib.IntN.{ℤ, pos, negsuc}
 use Rattle.refusal.specs.Tests.{Told, done, refused, first}
+use Rattle.whole.specs.Rows.{Row}
 use Rattle.whole.specs.Sums.{dot, sum, tabulate, scale, add, less}
 use Rattle.theory.specs.Loops.{Loop, over}
 use Rattle.theory.specs.Rankings.{Ranking, rank, start, fall, bound}
@@ -14,6 +15,10 @@ use Rattle.theory.specs.Conditions.{weighedTests, _at-each_unless_, of}
 use Rattle.theory.specs.Samples.{row, ranking, excluding, lasso, P, S1, S7-loop, S7, S9-loop, S10-loop, S10-stem, S10-ranking}
 use Rattle.theory.specs.Samples.{S10, S14-loop, S14, unlike-loop, unlike-ranking, excluded-loop, unlike-exclusion, lasso-loop}
 use Rattle.theory.specs.Samples.{unlike-lasso}
+
+-- S10's stem, but that its row speaks of the state before the step too
+abbrev stem-from-x : List Row
+stem-from-x = row (pos 1 ∷ pos 0 ∷ []) (pos 0 ∷ negsuc 0 ∷ []) (negsuc 0) ∷ []
 
 unfoldable pub told : List (Told × Told)
 told =
@@ -48,10 +53,8 @@ told =
     (exclusionTold S7-loop (excluding 1 (negsuc 1) (pos 1) (pos 3)), refused 32 2) ∷
     -- S10, S11; then start, kept and the ranking, each in turn
     (lassoTold S10-loop S10, done) ∷
-    (exclusionTold S10-loop (record { q = 1; U = pos 0 ∷ pos 0 ∷ []; «V» = pos 0 ∷ pos 0 ∷ []; W = pos 0 ∷ pos 0 ∷ [] }), done) ∷ (
-      lassoTold S10-loop (lasso (row (pos 1 ∷ pos 0 ∷ []) (pos 0 ∷ negsuc 0 ∷ []) (negsuc 0) ∷ []) (negsuc 0) 1 (1 ∷ []) 1 (0 ∷ 0 ∷ 1 ∷ []) 1 S10-ranking),
-      refused 41 0,
-    ) ∷
+    (exclusionTold S10-loop (record { q = 1; U = pos 0 ∷ pos 0 ∷ []; «V» = pos 0 ∷ pos 0 ∷ []; W = pos 0 ∷ pos 0 ∷ [] }), done) ∷
+    (lassoTold S10-loop (lasso stem-from-x (negsuc 0) 1 (1 ∷ []) 1 (0 ∷ 0 ∷ 1 ∷ []) 1 S10-ranking), refused 41 0) ∷
     (lassoTold S10-loop (lasso S10-stem (negsuc 0) 1 (0 ∷ []) 1 (0 ∷ 0 ∷ 1 ∷ []) 1 S10-ranking), refused 42 1) ∷
     (lassoTold S10-loop (lasso S10-stem (negsuc 1) 1 (1 ∷ []) 1 (0 ∷ 0 ∷ 1 ∷ []) 1 S10-ranking), refused 43 0) ∷
     (lassoTold S10-loop (lasso S10-stem (negsuc 0) 1 (1 ∷ []) 1 (0 ∷ 0 ∷ 1 ∷ []) 0 S10-ranking), refused 44 1) ∷
@@ -92,8 +95,10 @@ computed =
     (numbers P S1 (pos 2 ∷ pos 1 ∷ []), record { r = pos 1 ∷ negsuc 0 ∷ []; δ0 = pos 2; δ = pos 1; at-x = 0 }) ∷ (
       numbers P (ranking (2 ∷ 0 ∷ 0 ∷ []) (0 ∷ 2 ∷ 2 ∷ [])) (pos 5 ∷ pos 1 ∷ []),
       record { r = pos 2 ∷ negsuc 1 ∷ []; δ0 = pos 4; δ = pos 2; at-x = 3 },
-    ) ∷
-    (numbers (longer S10-loop S10) S10-ranking (pos 5 ∷ pos 1 ∷ []), record { r = pos 1 ∷ pos 0 ∷ []; δ0 = pos 0; δ = pos 1; at-x = 6 }) ∷ (
+    ) ∷ (
+      numbers (longer S10-loop S10) S10-ranking (pos 5 ∷ pos 1 ∷ []),
+      record { r = pos 1 ∷ pos 0 ∷ []; δ0 = pos 0; δ = pos 1; at-x = 6 },
+    ) ∷ (
       numbers (over 1 (row (pos 0 ∷ []) (pos 0 ∷ []) (negsuc 0) ∷ [])) (ranking (0 ∷ []) (1 ∷ [])) (pos 7 ∷ []),
       record { r = pos 0 ∷ []; δ0 = pos 0; δ = pos 1; at-x = 1 },
     ) ∷

@@ -9,7 +9,7 @@ use Rattle.whole.specs.Sums.{dot}
 use Rattle.whole.proofs.Size.{abs-add, fits-abs}
 use Rattle.judge_sums.specs.Lists.{entriesFrom}
 use Rattle.judge_sums.specs.Places.{rightAt}
-use Rattle.judge_sums.proofs.ListLaws.{state-dot}
+use Rattle.judge_along.proofs.AlongLists.{state-dot}
 use Rattle.judge_lasso.specs.LassoHeld.{lasso-held, s-place}
 use Rattle.judge_bound.specs.BoundShown.{invariant-held}
 use mir.Facts.{toZ-ofZ}

@@ -10,8 +10,11 @@ use Rattle.sheet_write_lines.proofs.put_whole.Tie as tie
 
 -- the number that is passed on is z
 module _ (c : tie.After-slice-known2) where
-  put : Puts (c .before .before .before .before .before .args .text .now) (c .before .before .before .before .before .args .place) (signed-decimal (c .before .before .before .before .before .args .z)) (c .before .before .put-i64 .result) (c .before .before .put-i64 .last .0)
-  put = rw (toZ-ofZ (c .before .before .before .before .before .fits .z)) at (c .before .before .put-i64 .ensures)
+  abbrev start : tie.Start
+  start = c .before .before .before .before .before
+
+  put : Puts (start .args .text .now) (start .args .place) (signed-decimal (start .args .z)) (c .before .before .put-i64 .result) (c .before .before .put-i64 .last .0)
+  put = rw (toZ-ofZ (start .fits .z)) at (c .before .before .put-i64 .ensures)
 
 put-i64-requires : tie.Need-put-i64-requires
 put-i64-requires c κs = rw (toZ-ofZ (c .before .before .fits .z)) (omega arith)
@@ -27,7 +30,7 @@ same-length c = search needs
 
 returns : tie.Need-returns
 returns c =
-    let a = c .before .before .before .before .before .args in
+    let a = start c .args in
     puts-byte (signed-decimal (a .z)) (a .after) (omega arith) (put c)
 
 pub put-whole-spec : {M : Type 1} → statement M

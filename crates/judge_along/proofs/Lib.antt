@@ -1,0 +1,4 @@
+pub mod AlongLaws
+pub mod AlongLists
+pub mod AlongSample
+pub mod SideLaws
