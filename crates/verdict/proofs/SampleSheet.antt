@@ -1,4 +1,4 @@
--- 01, "Sample sheet": S1 to S14 in one table under one statement, `sample-sheet`, about the definitions on the records' own bytes. A line is a claim: a
+-- 01, "Sample sheet": S1 to S14 in one table under one statement, `sample-sheet`, about the definitions on the records' own bytes. A line is a
 -- verdict of judging with the rank list afterwards (lent with n + 1 places that hold 77), an answer of bound, or one for every state.
 use mathlib.Core.Path.{_≡_, refl, ap}
 use Prim.Native.Nat.{ℕ}
@@ -30,21 +30,21 @@ use borrow.Author.Tests.{eq-eqb}
 abbrev pub fails : ℕ → ℕ → Verdict
 fails number place = record { number = number; place = place; about = 2; outcome = Nothing }
 
-pub data Claim : Type 0 where
+pub data Line : Type 0 where
   -- loop, certificate, places of the rank list, the verdict, the list afterwards
-  judged : List ℕ → List ℕ → ℕ → Verdict → List ℤ → Claim
+  judged : List ℕ → List ℕ → ℕ → Verdict → List ℤ → Line
   -- loop, certificate, state, the answer
-  bounded-at : List ℕ → List ℕ → List ℤ → Bounded → Claim
+  bounded-at : List ℕ → List ℕ → List ℤ → Bounded → Line
   -- loop, certificate, the answer at every state of one entry in range
-  bounded-everywhere : List ℕ → List ℕ → Bounded → Claim
+  bounded-everywhere : List ℕ → List ℕ → Bounded → Line
 
-abbrev pub Holds : Claim → Type 0
+abbrev pub Holds : Line → Type 0
 Holds (judged l c places verdict rank) =
     (judges (judge-of l c (replicate places (pos 77))) ≡ verdict) × (rank-after (judge-of l c (replicate places (pos 77))) (replicate places (pos 77)) ≡ rank)
 Holds (bounded-at l c state answer) = bounds (bound-of l c state) ≡ answer
 Holds (bounded-everywhere l c answer) = (x : ℤ) → within state-entries x ≡ true → bounds (bound-of l c (x ∷ [])) ≡ answer
 
-unfoldable pub sheet : List Claim
+unfoldable pub sheet : List Line
 sheet =
     judged P S1 3 (shows (Ranking (pos 2) (pos 1))) (pos 1 ∷ − 1 ∷ pos 77 ∷ [])
     ∷ judged P S2 3 (shows (Ranking (pos 4) (pos 2))) (pos 2 ∷ − 2 ∷ pos 77 ∷ [])
@@ -85,7 +85,7 @@ S13-everywhere x h =
     let agreed-on : said bounding b ≡ agreed = agrees-said bounding b (refl, (refl, (passes-done state-tests (given-state b) (refl, (eq-eqb (before-outside (x ∷ [])) 1 inside, tt)), (refl, (refl, tt))))) in
     rw agreed-on (ap (λ (k : ℕ). record { verdict = shows (Ranking (pos 0) (pos 1)); bound = k }) (level x))
 
--- every claim of the sheet holds
+-- every line of the sheet holds
 pub sample-sheet : Each Holds sheet
 unfolding computing sheet Each P ends-without-rank halves with-stem no-rows no-steps by-two S1 S2 S3 S7 S8 S9 S10 S11 S12-ranking S12-exclusion S13 S14 second-of-P Records.P Records.S1 Records.S7 Records.S10 loop-bytes ranking-bytes exclusion-bytes rows-values row-values ranking-values exclusion-values
 sample-sheet =

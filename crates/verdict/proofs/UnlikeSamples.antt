@@ -28,10 +28,10 @@ use Rattle.verdict.specs.declared.Grade.the-variants.{Whole}
 use Rattle.verdict.specs.declared.Outcome.the-variants.{Ranking, Exclusion, Lasso}
 use Rattle.verdict.proofs.Demands.{lasso-ends}
 use Rattle.verdict.proofs.InValues.{bytes-in, loop-writer, Loop-given, ranking-in-values}
-use Rattle.verdict.proofs.SampleSheet.{fails, Claim, judged, bounded-at, Holds}
+use Rattle.verdict.proofs.SampleSheet.{fails, Line, judged, bounded-at, Holds}
 
-unfoldable pub claims : List Claim
-claims =
+unfoldable pub unlike-lines : List Line
+unlike-lines =
     -- k 2, T (2), k2 1 is accepted; k 1, T (2), k2 2 is not
     judged with-stem (S10-scaled 2 2 1) 3 (shows (Lasso (pos 0) (pos 1))) (pos 1 ∷ pos 0 ∷ pos 77 ∷ [])
     ∷ judged with-stem (S10-scaled 1 2 2) 3 (fails 42 1) (pos 77 ∷ pos 77 ∷ pos 77 ∷ [])
@@ -42,8 +42,8 @@ claims =
     ∷ bounded-at lasso-loop unlike-lasso (− 10 ∷ − 10 ∷ []) (record { verdict = shows (Lasso (pos 73) (pos 33)); bound = 7 })
     ∷ []
 
-pub unlike-samples : Each Holds claims
-unfolding computing claims Each with-stem S10-scaled S10-parts unlike-loop unlike-ranking excluded-loop unlike-exclusion lasso-loop unlike-lasso Records.unlike-loop Records.unlike-ranking Records.unlike-exclusion Records.unlike-lasso loop-bytes lasso-bytes rows-values row-values lasso-values
+pub unlike-samples : Each Holds unlike-lines
+unfolding computing unlike-lines Each with-stem S10-scaled S10-parts unlike-loop unlike-ranking excluded-loop unlike-exclusion lasso-loop unlike-lasso Records.unlike-loop Records.unlike-ranking Records.unlike-exclusion Records.unlike-lasso loop-bytes lasso-bytes rows-values row-values lasso-values
 unlike-samples = ((refl, refl), ((refl, refl), ((refl, refl), (refl, ((refl, refl), ((refl, refl), (refl, tt)))))))
 
 -- ---- bytes and rows
