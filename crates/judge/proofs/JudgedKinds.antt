@@ -2,14 +2,14 @@
 use mathlib.Core.Path.{_≡_, refl, sym, ap, _∙_}
 use Prim.Native.Nat.{ℕ, _≤_, _<_}
 use mathlib.Core.Bool.{true, cond}
-use mathlib.Core.List.{List, []}
+use mathlib.Core.List.{List, _++_}
 use lib.IntN.{ℤ, pos}
-use lib.ListN.{length}
+use lib.ListN.{length, drop}
 use borrow.Author.Tests.{ne-eqb}
 use Rattle.endian.specs.Numbers.{littleAt}
 use Rattle.record.specs.Layouts.{Kind, exclusion, has-rank, is-lasso}
 use Rattle.refusal.specs.Faults.{fault-of}
-use Rattle.refusal.specs.Tests.{done, refused, first, number as number-told}
+use Rattle.refusal.specs.Tests.{Told, done, refused, first, number as number-told}
 use Rattle.refusal.specs.declared.Fault.{Fault}
 use Rattle.refusal.proofs.FaultLaws.{fault-refused, fault-done}
 use Rattle.refusal.proofs.TestLaws.{never}
@@ -22,30 +22,30 @@ use Rattle.judge_ranking.specs.RankedBy.{ranked-of, rank-put}
 use Rattle.judge_ranking.specs.declared.Ranked.{Ranked}
 use Rattle.verdict.specs.Claims.{ranking-claim, exclusion-claim, lasso-claim}
 use Rattle.verdict.specs.Contents.{loop-in, ranking-in, lasso-in}
-use Rattle.verdict.specs.Judging.{Judging, rank-room, judging, judges, ranks, rank-after, judge-of, certificates-judged}
+use Rattle.verdict.specs.Judging.{Judging, rank-room, judges, rank-after, judge-of, certificates-judged}
 use Rattle.verdict.specs.Outcomes.{grade-of}
-use Rattle.verdict.specs.Pairs.{Pair, pair-of, kind-of, variables-of, claim, conditions, ranked-loop, ranking-of, rank-of, start-of, fall-of, outcome-of}
-use Rattle.verdict.specs.Stages.{agreed, said, shows, refusal-of, verdict-of}
+use Rattle.verdict.specs.Pairs.{Pair, pair-of, kind-of, variables-of, claim, conditions}
+use Rattle.verdict.specs.Stages.{shows, refusal-of}
 use Rattle.verdict.specs.declared.Outcome.the-variants.{Exclusion}
-use Rattle.verdict.proofs.Accepted.{room-there, no-room-needed}
+use Rattle.verdict.proofs.Accepted.{Both-sound, room-there, no-room-needed}
+use Rattle.verdict.proofs.ClaimAnswers.{judged-agreed, judged-fails}
 use Rattle.verdict.proofs.ConditionLaws.{conditions-named}
-use Rattle.verdict.proofs.StageLaws.{by-told, agrees-said}
-use Rattle.judge.specs.SoundPairs.{first-row, LoopSound, CertificateSound, RankedOf, rank-outcome, verdict-shown}
+use Rattle.verdict.proofs.StageLaws.{by-told}
+use Rattle.judge.specs.SoundPairs.{first-row, LoopSound, CertificateSound, ranked-loop, ranking-of, start-of, fall-of, RankedOf, rank-outcome, verdict-shown}
 use Rattle.judge.proofs.RankKinds.{by-rank}
 use Rattle.judge.proofs.SoundContents.{exclusion-told, exclusion-of}
-use Rattle.judge.proofs.JudgingWays.{refused-so, at-room, at-conditions}
+use Rattle.judge.proofs.JudgingWays.{refused-so, at-room}
 
 -- ---- kinds that have a rank
 
 -- what they show, and their rank
-pub outcome-is : (k : Kind) (p : Pair) → kind-of p ≡ k → has-rank k ≡ true → rank-outcome k (start-of p) (fall-of p) ≡ outcome-of k p
-unfolding rank-outcome outcome-of claim ranking-claim lasso-claim start-of fall-of ranked-loop ranking-of is-lasso
-outcome-is k p is h = by-rank (λ k. kind-of p ≡ k → rank-outcome k (start-of p) (fall-of p) ≡ outcome-of k p) k h (λ e. rw e) (λ e. rw e) is
+pub outcome-is : (k : Kind) (p : Pair) → kind-of p ≡ k → has-rank k ≡ true → rank-outcome k (start-of p) (fall-of p) ≡ claim k p .outcome
+unfolding rank-outcome claim ranking-claim lasso-claim start-of fall-of ranked-loop ranking-of is-lasso
+outcome-is k p is h = by-rank (λ k. kind-of p ≡ k → rank-outcome k (start-of p) (fall-of p) ≡ claim k p .outcome) k h (λ e. rw e) (λ e. rw e) is
 
-pub rank-is : (k : Kind) (p : Pair) → kind-of p ≡ k → has-rank k ≡ true → Rankings.rank (ranked-loop p) (ranking-of p) ≡ rank-of p
-unfolding rank-of claim ranking-claim lasso-claim ranked-loop ranking-of is-lasso
-rank-is k p is h =
-    by-rank (λ k. kind-of p ≡ k → Rankings.rank (ranked-loop p) (ranking-of p) ≡ claim k p .rank) k h (λ e. rw e) (λ e. rw e) is ∙ ap (λ k. claim k p .rank) (sym is)
+pub rank-is : (k : Kind) (p : Pair) → kind-of p ≡ k → has-rank k ≡ true → Rankings.rank (ranked-loop p) (ranking-of p) ≡ claim k p .rank
+unfolding claim ranking-claim lasso-claim ranked-loop ranking-of is-lasso
+rank-is k p is h = by-rank (λ k. kind-of p ≡ k → Rankings.rank (ranked-loop p) (ranking-of p) ≡ claim k p .rank) k h (λ e. rw e) (λ e. rw e) is
 
 module _ (loopbytes : List ℕ) (n m : ℕ) (l : LoopSound loopbytes n m) (certificate : List ℕ) (lent : List ℤ) where
   abbrev j : Judging
@@ -59,15 +59,23 @@ module _ (loopbytes : List ℕ) (n m : ℕ) (l : LoopSound loopbytes n m) (certi
     unfolding kind-of
     kind-told = c .kind-is
 
-    -- every stage is done
-    agreed-so : first rank-room j ≡ done → conditions p ≡ done → said judging j ≡ agreed
-    unfolding judge-of judging
-    agreed-so room holds = agrees-said judging j (l .told, (c .told, (room, (holds, tt))))
+    both-sound : Both-sound p
+    both-sound = record { loop-sound = l .told; certificate-sound = c .told }
+
+    claimed : (t : Told) → conditions p ≡ t → claim k p .told ≡ t
+    unfolding conditions
+    claimed t told = ap (λ k. claim k p .told) (sym kind-told) ∙ told
+
+    -- the conditions hold
+    agreed-so : first rank-room j ≡ done → conditions p ≡ done
+        → (shows (claim k p .outcome) ≡ judges j) × (claim k p .rank ++ drop (length (claim k p .rank)) lent ≡ rank-after j lent)
+    unfolding judge-of
+    agreed-so room holds = let a = judged-agreed j lent k both-sound kind-told room (claimed done holds) in (sym (a .0), sym (a .1))
 
     -- a condition fails
     fails-so : first rank-room j ≡ done → (number place : ℕ) → conditions p ≡ refused number place → (refusal-of 2 number place ≡ judges j) × (lent ≡ rank-after j lent)
     unfolding judge-of
-    fails-so room number place fails = refused-so j lent 2 number place (at-conditions j (l .told) (c .told) room number place fails)
+    fails-so room number place fails = let a = judged-fails j lent k both-sound kind-told room number place (claimed _ fails) in (sym (a .0), sym (a .1))
 
     never-0 : (number place : ℕ) → conditions p ≡ refused number place → number ≡ 0 → ⊥
     unfolding number-told
@@ -87,14 +95,14 @@ module _ (loopbytes : List ℕ) (n m : ℕ) (l : LoopSound loopbytes n m) (certi
         room-told = room-there j (rw kind-told ranked) .1 (rw (← l .n-is) room)
 
         pub ranked-judged : (verdict-shown k r ≡ judges j) × (after ≡ rank-after j lent)
-        unfolding verdict-shown judges rank-after verdict-of ranks judge-of ranked-of rank-put start-of fall-of
+        unfolding verdict-shown ranked-of rank-put start-of fall-of
         ranked-judged =
             by-told (conditions p)
             (λ e.
-            let done-so = agreed-so room-told e in
+            let answers = agreed-so room-told e in
             let shown : r ≡ record { number = 0; place = 0; start = start-of p; fall = fall-of p } = rw e at (by .shown) in (
-              rw (shown, done-so, kind-told) (ap shows (outcome-is k p kind-told ranked)),
-              rw e at (by .put) ∙ rw (done-so, rank-is k p kind-told ranked),
+              rw shown (ap shows (outcome-is k p kind-told ranked) ∙ answers .0),
+              rw e at (by .put) ∙ rw (rank-is k p kind-told ranked) (answers .1),
             ))
             (λ number place e.
             let answers = fails-so room-told number place e in
@@ -116,10 +124,8 @@ module _ (loopbytes : List ℕ) (n m : ℕ) (l : LoopSound loopbytes n m) (certi
     exclusion-refused some = fails-so exclusion c no-room (fault .number) (fault .place) (fault-refused fault (conditions p) fault-is some)
 
     pub exclusion-accepted : fault .number ≡ 0 → (shows (Exclusion (grade-of (littleAt 2 certificate 6))) ≡ judges j) × (lent ≡ rank-after j lent)
-    unfolding judges rank-after verdict-of ranks judge-of outcome-of rank-of claim exclusion-claim exclusion-held
+    unfolding claim exclusion-claim exclusion-held
     exclusion-accepted zero =
-        let kind-is = kind-told exclusion c in
         let q-is = exclusion-of loopbytes n m l certificates-judged certificate c in
-        let done-so = agreed-so exclusion c no-room (fault-done fault (conditions p) fault-is (conditions-named p) zero) in
-        let no-rank : rank-of p ≡ [] = ap (λ k. claim k p .rank) kind-is in
-        (rw (done-so, kind-is, q-is), rw (done-so, no-rank))
+        let answers = agreed-so exclusion c no-room (fault-done fault (conditions p) fault-is (conditions-named p) zero) in
+        (rw q-is at (answers .0), answers .1)

@@ -10,7 +10,7 @@ use Rattle.record.specs.Readers.{sound}
 use Rattle.refusal.specs.Tests.{done, refused, first}
 use Rattle.refusal.proofs.TestLaws.{failed}
 use Rattle.verdict.specs.Judging.{Judging, rank-room, judging, judges, ranks, rank-after}
-use Rattle.verdict.specs.Pairs.{kind-of, variables-of, conditions}
+use Rattle.verdict.specs.Pairs.{kind-of, variables-of}
 use Rattle.verdict.specs.Stages.{refusal, said, refusal-of, verdict-of}
 use Rattle.verdict.proofs.StageLaws.{stage-done, stage-refused}
 
@@ -36,9 +36,3 @@ module _ (j : Judging) where
       at-room ranked short =
           stage-done _ _ _ j loop-sound ∙ stage-done _ _ _ j certificate-sound ∙
           stage-refused _ _ _ j 7 (variables-of (j .records)) (failed 7 _ _ _ j (rw ranked (lt-leb _ _ short)))
-
-      -- a condition that fails
-      pub at-conditions : first rank-room j ≡ done → (k p : ℕ) → conditions (j .records) ≡ refused k p → said judging j ≡ refusal 2 k p
-      unfolding judging
-      at-conditions room k p fails =
-          stage-done _ _ _ j loop-sound ∙ stage-done _ _ _ j certificate-sound ∙ stage-done _ _ _ j room ∙ stage-refused _ _ _ j k p fails

@@ -16,6 +16,7 @@ use Rattle.judge_lasso.specs.LassoHeld.{lasso-held}
 use Rattle.theory.specs.Conditions.{exclusionTold}
 use Rattle.verdict.specs.Contents.{loop-in, ranking-in, exclusion-in, lasso-in}
 use Rattle.verdict.specs.Pairs as Pairs
+use Rattle.judge.specs.SoundPairs as Pairs-of
 use Rattle.verdict.specs.Pairs.{loop-record, certificate-record, Pair, pair-of, kind-of}
 use Rattle.verdict.proofs.ConditionLaws.{conditions-ranking, conditions-exclusion, conditions-lasso}
 use Rattle.judge.specs.SoundPairs.{first-row, LoopSound, CertificateSound, RankedOf}
@@ -58,14 +59,14 @@ module _ (loopbytes : List ℕ) (n m : ℕ) (l : LoopSound loopbytes n m) where
 
     pub ranking-told : CertificateSound wants loopbytes certificate ranking → (r : Ranked) (before after : List ℤ)
         → RankingBy r (loop-held loopbytes first-row n m) (ranking-held certificate 6 m) before after → RankedOf r p before after
-    unfolding Pairs.ranked-loop Pairs.ranking-of is-lasso
+    unfolding Pairs-of.ranked-loop Pairs-of.ranking-of is-lasso
     ranking-told c r before after by =
         let told = kind-told ranking c in
         rw (conditions-ranking p told, told, loop-of, ranking-of c) by
 
     pub lasso-told : (ms : ℕ) → CertificateSound wants loopbytes certificate lasso → ms ≡ counts-read record-of .ms → (r : Ranked) (before after : List ℤ)
         → LassoBy r (loop-held loopbytes first-row n m) (lasso-held certificate n m ms) before after → RankedOf r p before after
-    unfolding Pairs.ranked-loop Pairs.ranking-of is-lasso
+    unfolding Pairs-of.ranked-loop Pairs-of.ranking-of is-lasso
     lasso-told ms c ms-is r before after by =
         let told = kind-told lasso c in
         rw (conditions-lasso p told, told, loop-of, lasso-of ms c ms-is) by

@@ -6,11 +6,15 @@ use mathlib.Core.Path.{_≡_}
 use mathlib.Core.List.{List}
 use lib.Dec.{eqb}
 use lib.IntN.{ℤ}
-use Rattle.record.specs.Layouts.{Kind, loop, ranking, exclusion, lasso, other, kindOf, has-rank}
+use Rattle.record.specs.Layouts.{Kind, loop, ranking, exclusion, lasso, other, kindOf, has-rank, is-lasso}
 use Rattle.record.specs.Readers.{kind, counts-read, sound}
 use Rattle.refusal.specs.Tests.{done, first}
 use Rattle.verdict.specs.Judging.{judges, rank-after, judge-of}
-use Rattle.verdict.specs.Pairs.{loop-record, certificate-record, Pair, conditions, ranked-loop, ranking-of}
+use Rattle.theory.specs.Lassos.{longer}
+use Rattle.theory.specs.Loops.{Loop}
+use Rattle.theory.specs.Rankings as Rankings
+use Rattle.verdict.specs.Contents.{loop-in, ranking-in, lasso-in}
+use Rattle.verdict.specs.Pairs.{loop-record, certificate-record, Pair, kind-of, conditions}
 use Rattle.verdict.specs.Stages.{shows, refusal-of}
 use Rattle.verdict.specs.declared.Outcome.{Outcome}
 use Rattle.verdict.specs.declared.Outcome.the-variants.{Nothing, Ranking, Lasso}
@@ -39,8 +43,20 @@ pub record RankSound (wants : Kind → Bool) (loopbytes bytes : List ℕ) (numbe
   pub ms-is : ms ≡ counts-read (certificate-record wants (loop-record loopbytes) bytes) .ms
   pub ranks : has-rank (kindOf number) ≡ true
 
--- what its conditions tell; and where they hold start, fall and rank, which are those of kind 2, or within kind 4 over the loop with the
--- added row
+-- the loop and the ranking that its rank, start and fall are of: kind 2's, or within kind 4 the loop with the added row
+unfoldable pub ranked-loop : Pair → Loop
+ranked-loop p = cond (is-lasso (kind-of p)) (longer (loop-in (p .loop-is)) (lasso-in (p .certificate-is))) (loop-in (p .loop-is))
+
+unfoldable pub ranking-of : Pair → Rankings.Ranking
+ranking-of p = cond (is-lasso (kind-of p)) (lasso-in (p .certificate-is) .ranking) (ranking-in (p .certificate-is))
+
+unfoldable pub start-of : Pair → ℤ
+start-of p = Rankings.start (ranked-loop p) (ranking-of p)
+
+unfoldable pub fall-of : Pair → ℤ
+fall-of p = Rankings.fall (ranked-loop p) (ranking-of p)
+
+-- what its conditions tell; and where they hold start, fall and rank
 abbrev pub RankedOf : Ranked → Pair → List ℤ → List ℤ → Type 0
 RankedOf r p before after = RankedBy r (conditions p) (ranked-loop p) (ranking-of p) before after
 

@@ -15,37 +15,35 @@ use Rattle.whole.proofs.Tables.{length-tabulate}
 use Rattle.whole.proofs.Solve.{v, neg, solve-lt, lt-fact}
 use Rattle.record.specs.Layouts.{Kind, ranking, lasso, kindOf, is-loop, is-lasso, has-rank}
 use Rattle.record.proofs.SoundRecords.{sound-says}
-use Rattle.refusal.specs.Places.{told-once}
-use Rattle.refusal.specs.Tests.{done, refused, first, number as number-told}
-use Rattle.refusal.proofs.PlaceLaws.{first-once}
+use Rattle.refusal.specs.Tests.{Told, done, refused, first, number as number-told}
 use Rattle.refusal.proofs.TestLaws.{either, never}
 use Rattle.theory.specs.Loops.{b, Loop}
 use Rattle.theory.specs.Rankings as Rankings
 use Rattle.judge_lasso.specs.LassoHeld.{LassoIn, lasso-held}
 use Rattle.judge_ranking.specs.RankedBy.{ranked-of, rank-put}
 use Rattle.judge_ranking.specs.declared.Ranked.{Ranked}
-use Rattle.verdict.specs.Bounding.{Bounding, given-state, invariant, bounding, bounded, bounds, bound-of, certificates-bounded}
+use Rattle.verdict.specs.Bounding.{Bounding, given-state, bounds, bound-of, certificates-bounded}
 use Rattle.verdict.specs.Claims.{ranking-claim, lasso-claim}
 use Rattle.verdict.specs.Contents.{loop-in, lasso-in}
-use Rattle.verdict.specs.Pairs.{loop-record, Pair, pair-of, kind-of, variables-of, claim, conditions, ranked-loop, ranking-of, start-of, fall-of}
+use Rattle.verdict.specs.Pairs.{loop-record, Pair, pair-of, kind-of, variables-of, claim, conditions}
 use Rattle.verdict.specs.StateTests.{state-tests}
-use Rattle.verdict.specs.Stages.{agreed, said, shows, verdict-of}
+use Rattle.verdict.specs.Stages.{shows}
 use Rattle.verdict.specs.declared.Bounded.{Bounded}
 use Rattle.verdict.specs.declared.Outcome.{Outcome}
-use Rattle.verdict.proofs.Accepted.{ranking-conditions, lasso-conditions}
+use Rattle.verdict.proofs.Accepted.{Both-sound, ranking-conditions, lasso-conditions}
+use Rattle.verdict.proofs.ClaimAnswers.{bounded-agreed, bounded-outside, bounded-fails}
 use Rattle.verdict.proofs.ConditionLaws.{conditions-named}
 use Rattle.verdict.proofs.StatesInRange.{State-in, state-fits}
-use Rattle.verdict.proofs.StageLaws.{by-told, agrees-said}
+use Rattle.verdict.proofs.StageLaws.{by-told}
 use Rattle.verdict.proofs.SumsFit.{Ranking-sums-fit}
 use Rattle.verdict.proofs.SmallSums.{small-state}
 use Rattle.verdict.proofs.SumsFitInBytes.{ranking-sums-fit, lasso-sums-fit-in}
-use Rattle.judge.specs.SoundPairs.{LoopSound, RankSound, RankedOf, rank-outcome}
+use Rattle.judge.specs.SoundPairs.{LoopSound, RankSound, ranked-loop, ranking-of, start-of, fall-of, RankedOf, rank-outcome}
 use Rattle.judge.proofs.JudgedKinds.{outcome-is}
 use Rattle.judge.proofs.RankKinds.{by-rank, by-number, as-ranking, as-lasso}
 use Rattle.judge.proofs.SoundSizes.{loop-kind, counts-are, lasso-long}
 use Rattle.judge.proofs.SoundContents.{lasso-of}
 use Rattle.judge_bound.specs.BoundShown.{no-bound, StateFits, BoundFits, invariant-held, speaks-held, bound-shown}
-use Rattle.judge_bound.proofs.BoundingWays.{refused-so, at-conditions, at-invariant}
 
 -- ---- rankings
 
@@ -111,16 +109,18 @@ module _ (loopbytes : List ℕ) (n m : ℕ) (l : LoopSound loopbytes n m) (certi
     pub lasso-there : number ≡ 4 → LassoIn certificate n m ms
     lasso-there four = lasso-long loopbytes n m ms l certificates-bounded certificate (as-lasso c four) (c .ms-is)
 
-    speaks-so : speaks-held certificate n m number ms state ≡ claim (kind-of p) p .speaks-of state
+    speaks-so : speaks-held certificate n m number ms state ≡ claim (kindOf number) p .speaks-of state
     unfolding speaks-held invariant-held claim ranking-claim lasso-claim kindOf
-    speaks-so =
-        by-number number (c .ranks)
-        (λ two. rw two (ap (λ k. claim k p .speaks-of state) (sym (kind-told ∙ ap kindOf two))))
-        (λ four. rw (four, ← lasso-told four) (ap (λ k. claim k p .speaks-of state) (sym (kind-told ∙ ap kindOf four))))
+    speaks-so = by-number number (c .ranks) (λ two. rw two) (λ four. rw (four, ← lasso-told four))
 
-    invariant-told : first invariant call ≡ told-once 11 (speaks-held certificate n m number ms state)
-    unfolding invariant bound-of
-    invariant-told = first-once 11 _ call ∙ ap (told-once 11) (sym speaks-so)
+    -- ---- what the certificate claims
+
+    both-sound : Both-sound p
+    both-sound = record { loop-sound = l .told; certificate-sound = c .as-kind .told }
+
+    claimed : (t : Told) → conditions p ≡ t → claim (kindOf number) p .told ≡ t
+    unfolding conditions
+    claimed t told = ap (λ k. claim k p .told) (sym kind-told) ∙ told
 
     never-0 : (number place : ℕ) → conditions p ≡ refused number place → number ≡ 0 → ⊥
     unfolding number-told
@@ -185,16 +185,15 @@ module _ (loopbytes : List ℕ) (n m : ℕ) (l : LoopSound loopbytes n m) (certi
 
         -- a state at which the invariant fails, and one at which it holds
         outside : speaks-held certificate n m number ms state ≡ false → no-bound 2 11 0 ≡ bounds call
-        unfolding bound-of told-once
-        outside fails = refused-so call 2 11 0 (at-invariant call (l .told) (c .as-kind .told) state-told e (invariant-told ∙ rw fails))
+        unfolding bound-of
+        outside fails = sym (bounded-outside call (kindOf number) both-sound kind-told state-told (claimed done e) (sym speaks-so ∙ fails))
 
         spoken : speaks-held certificate n m number ms state ≡ true
             → _≡_ {A = Bounded} (record { verdict = shows (rank-outcome (kindOf number) (start-of p) (fall-of p)); bound = Rankings.bound (Rankings.rank (ranked-loop p) (ranking-of p)) (start-of p) (fall-of p) state }) (bounds call)
-        unfolding bounds bounded verdict-of bound-of bounding told-once
+        unfolding bound-of
         spoken holds =
-            let done-so : said bounding call ≡ agreed = agrees-said bounding call (l .told, (c .as-kind .told, (state-told, (e, (invariant-told ∙ rw holds, tt))))) in
-            rw (done-so, kind-told)
-            (ap₂ (λ (o : Outcome) (k : ℕ). record { verdict = shows o; bound = k }) (outcome-is (kindOf number) p kind-told (c .ranks)) (bound-is (kindOf number) p kind-told (c .ranks) state))
+            ap₂ (λ (o : Outcome) (k : ℕ). record { verdict = shows o; bound = k }) (outcome-is (kindOf number) p kind-told (c .ranks)) (bound-is (kindOf number) p kind-told (c .ranks) state)
+            ∙ sym (bounded-agreed call (kindOf number) both-sound kind-told state-told (claimed done e) (sym speaks-so ∙ holds))
 
       -- the number that was told is 0 exactly where they hold
       pub ranked-fits : r .number ≡ 0 → BoundFits entries n (r .start) (r .fall) state
@@ -207,7 +206,7 @@ module _ (loopbytes : List ℕ) (n m : ℕ) (l : LoopSound loopbytes n m) (certi
       unfolding bound-shown ranked-of bound-of
       refused-told k q e =
           let shown-so : r ≡ record { number = k; place = q; start = pos 0; fall = pos 0 } = rw e at (by .shown) in
-          rw (shown-so, ne-eqb k 0 (never-0 k q e)) (refused-so call 2 k q (at-conditions call (l .told) (c .as-kind .told) state-told k q e))
+          rw (shown-so, ne-eqb k 0 (never-0 k q e)) (sym (bounded-fails call (kindOf number) both-sound kind-told state-told k q (claimed _ e)))
 
       pub ranked-answers : (answer : Bounded) → answer ≡ bound-shown r entries n m certificate number ms state → answer ≡ bounds call
       unfolding bound-shown

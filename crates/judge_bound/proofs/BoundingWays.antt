@@ -3,9 +3,8 @@ use mathlib.Core.Path.{_≡_, _∙_}
 use Prim.Native.Nat.{ℕ}
 use Rattle.record.specs.Readers.{sound}
 use Rattle.refusal.specs.Tests.{done, refused, first}
-use Rattle.verdict.specs.Bounding.{Bounding, given-state, invariant, bounding, bounds, bounded}
+use Rattle.verdict.specs.Bounding.{Bounding, given-state, bounding, bounds, bounded}
 use Rattle.verdict.specs.StateTests.{state-tests}
-use Rattle.verdict.specs.Pairs.{conditions}
 use Rattle.verdict.specs.Stages.{refusal, said, verdict-of}
 use Rattle.verdict.proofs.StageLaws.{stage-done, stage-refused}
 use Rattle.judge_bound.specs.BoundShown.{no-bound}
@@ -29,17 +28,3 @@ module _ (b : Bounding) where
       pub at-state : (k p : ℕ) → first state-tests (given-state b) ≡ refused k p → said bounding b ≡ refusal 0 k p
       unfolding bounding
       at-state k p h = stage-done _ _ _ b loop-sound ∙ stage-done _ _ _ b certificate-sound ∙ stage-refused _ _ _ b k p h
-
-      module _ (state-told : first state-tests (given-state b) ≡ done) where
-        -- a condition that fails
-        pub at-conditions : (k p : ℕ) → conditions (b .records) ≡ refused k p → said bounding b ≡ refusal 2 k p
-        unfolding bounding
-        at-conditions k p fails =
-            stage-done _ _ _ b loop-sound ∙ stage-done _ _ _ b certificate-sound ∙ stage-done _ _ _ b state-told ∙ stage-refused _ _ _ b k p fails
-
-        -- a state at which the invariant fails
-        pub at-invariant : conditions (b .records) ≡ done → first invariant b ≡ refused 11 0 → said bounding b ≡ refusal 2 11 0
-        unfolding bounding
-        at-invariant holds fails =
-            stage-done _ _ _ b loop-sound ∙ stage-done _ _ _ b certificate-sound ∙ stage-done _ _ _ b state-told ∙ stage-done _ _ _ b holds ∙
-            stage-refused _ _ _ b 11 0 fails

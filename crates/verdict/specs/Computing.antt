@@ -22,6 +22,5 @@ unfolding
     Contents.ranking-from Contents.exclusion-from Contents.lasso-from Contents.loop-in Contents.ranking-in Contents.exclusion-in
     Contents.lasso-in Judging.rank-room Judging.judging Judging.judges Judging.ranks Judging.rank-after Judging.judge-of
     Outcomes.grade-number Outcomes.numbers Outcomes.grade-of Pairs.loop-record Pairs.certificate-record Pairs.kind-of
-    Pairs.variables-of Pairs.claim Pairs.conditions Pairs.ranked-loop Pairs.ranking-of Pairs.rank-of Pairs.start-of
-    Pairs.fall-of Pairs.outcome-of Stages.said Stages.verdict-of
+    Pairs.variables-of Pairs.claim Pairs.conditions Pairs.rank-of Pairs.outcome-of Stages.said Stages.verdict-of
 computing = tt

@@ -1,15 +1,11 @@
 -- The two records that a judge gets: when each is sound, and what the certificate claims, by its kind, of the loop that the bytes hold.
 use Prim.Native.Nat.{ℕ}
-use mathlib.Core.Bool.{Bool, cond}
+use mathlib.Core.Bool.{Bool}
 use mathlib.Core.List.{List}
 use lib.IntN.{ℤ}
-use Rattle.record.specs.Layouts.{Kind, loop, ranking, exclusion, lasso, other, is-loop, is-lasso}
+use Rattle.record.specs.Layouts.{Kind, loop, ranking, exclusion, lasso, other, is-loop}
 use Rattle.record.specs.Readers.{Reader, kind, counts-read}
 use Rattle.refusal.specs.Tests.{Told}
-use Rattle.theory.specs.Lassos.{longer}
-use Rattle.theory.specs.Loops.{Loop}
-use Rattle.theory.specs.Rankings as Rankings
-use Rattle.theory.specs.Rankings.{start, fall}
 use Rattle.verdict.specs.Claims.{Claim, ranking-claim, exclusion-claim, lasso-claim, no-claim}
 use Rattle.verdict.specs.Contents.{loop-in, ranking-in, exclusion-in, lasso-in}
 use Rattle.verdict.specs.declared.Outcome.{Outcome}
@@ -61,17 +57,3 @@ outcome-of k p = claim k p .outcome
 
 unfoldable pub rank-of : Pair → List ℤ
 rank-of p = claim (kind-of p) p .rank
-
--- ---- the loop and the ranking of it that a rank, a start and a fall are of: kind 2's, or within kind 4 the loop with the added row
-
-unfoldable pub ranked-loop : Pair → Loop
-ranked-loop p = cond (is-lasso (kind-of p)) (longer (loop-in (p .loop-is)) (lasso-in (p .certificate-is))) (loop-in (p .loop-is))
-
-unfoldable pub ranking-of : Pair → Rankings.Ranking
-ranking-of p = cond (is-lasso (kind-of p)) (lasso-in (p .certificate-is) .ranking) (ranking-in (p .certificate-is))
-
-unfoldable pub start-of : Pair → ℤ
-start-of p = start (ranked-loop p) (ranking-of p)
-
-unfoldable pub fall-of : Pair → ℤ
-fall-of p = fall (ranked-loop p) (ranking-of p)
