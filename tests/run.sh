@@ -76,7 +76,17 @@ cargo_in() {
 
 rust_wrapper() { cargo_in bindings/rust test --offline --locked; }
 
-second_opinion_samples() { cargo_in tests test --release --offline --locked; }
+# The second opinion is compiled while the parts before it run; if that fails, its own parts say why.
+compile_second_opinion() {
+  cargo_in tests test --release --offline --locked --no-run
+  cargo_in tests build --release --offline --locked
+}
+compile_second_opinion >"$scratch/compiled" 2>&1 &
+
+second_opinion_samples() {
+  wait
+  cargo_in tests test --release --offline --locked
+}
 
 second_opinion() {
   cargo_in tests run --release --offline --locked -- --cases "$cases" --seed "$seed"
