@@ -73,12 +73,13 @@ counts-pinned = (search, search, λ h. h .n-in .least .le, λ h. h .n-in .most .
 
 -- A, A' and b of a row over one variable
 pub row-pinned :
-    Row-in 2 (row (pos 30_000 ∷ − 30_000 ∷ []) (− 30_000 ∷ pos 30_000 ∷ []) (pos 1_000_000))
-    × Row-in 2 (row (− 30_000 ∷ pos 30_000 ∷ []) (pos 30_000 ∷ − 30_000 ∷ []) (− 1_000_000))
+    Row-in 2 (row (pos 30_000 ∷ − 30_000 ∷ []) (− 30_000 ∷ pos 30_000 ∷ []) (pos 2_000_000_000))
+    × Row-in 2 (row (− 30_000 ∷ pos 30_000 ∷ []) (pos 30_000 ∷ − 30_000 ∷ []) (− 2_000_000_000))
     × (Row-in 1 (row (pos 30_001 ∷ []) (pos 0 ∷ []) (pos 0)) → ⊥)
     × (Row-in 1 (row [] (pos 0 ∷ []) (pos 0)) → ⊥)
+    × (Row-in 1 (row (pos 0 ∷ []) (pos 0 ∷ []) (pos 2_000_000_001)) → ⊥)
 unfolding entries right-sides either-way Each
-row-pinned = (search, search, λ h. h .now-in .each .0 .most .le, λ h. omega (arith, h .now-in .counted))
+row-pinned = (search, search, λ h. h .now-in .each .0 .most .le, λ h. omega (arith, h .now-in .counted), λ h. h .right-in .most .le)
 
 pub ranking-pinned :
     Ranking-in 2 (pos 0 ∷ pos 60_000 ∷ []) (pos 60_000 ∷ pos 0 ∷ []) × (Ranking-in 1 (− 1 ∷ []) (pos 0 ∷ []) → ⊥) × (Ranking-in 1 (pos 0 ∷ []) (pos 60_001 ∷ []) → ⊥)
@@ -99,9 +100,10 @@ alike e b k y =
     record { stem = row (e ∷ []) (e ∷ []) b ∷ []; s = e ∷ []; s0 = b; k = k; T = y ∷ []; k2 = k; H = y ∷ []; h0 = y; Y = y ∷ y ∷ []; Z = y ∷ y ∷ [] }
 
 pub lasso-pinned :
-    Lasso-in 1 1 (alike (pos 30_000) (pos 1_000_000) (pos 60_000) (pos 60_000))
-    × Lasso-in 1 1 (alike (− 30_000) (− 1_000_000) (pos 1) (pos 0))
+    Lasso-in 1 1 (alike (pos 30_000) (pos 2_000_000_000) (pos 60_000) (pos 60_000))
+    × Lasso-in 1 1 (alike (− 30_000) (− 2_000_000_000) (pos 1) (pos 0))
     × (Lasso-in 1 1 (alike (pos 0) (pos 0) (pos 0) (pos 0)) → ⊥)
     × (Lasso-in 1 1 (alike (pos 0) (pos 0) (pos 1) (pos 60_001)) → ⊥)
+    × (Lasso-in 1 1 (alike (pos 0) (− 2_000_000_001) (pos 1) (pos 0)) → ⊥)
 unfolding rows entries right-sides scales multipliers _to_ either-way Each
-lasso-pinned = (search, search, λ h. h .k-in .least .le, λ h. h .h0-in .most .le)
+lasso-pinned = (search, search, λ h. h .k-in .least .le, λ h. h .h0-in .most .le, λ h. h .s0-in .least .le)

@@ -26,28 +26,43 @@ unfoldable pub rows : Range
 rows = 0 to 64
 
 -- entries of A, A', B, B', s
-unfoldable pub entries : Range
-entries = either-way 30_000
+abbrev pub entry-most : ℕ
+entry-most = 30_000
 
--- b, d, s0
+unfoldable pub entries : Range
+entries = either-way entry-most
+
+-- b, d, s0 (02, Q-5)
+abbrev pub right-side-most : ℕ
+right-side-most = 2_000_000_000
+
 unfoldable pub right-sides : Range
-right-sides = either-way 1_000_000
+right-sides = either-way right-side-most
 
 -- multipliers
+abbrev pub multiplier-most : ℕ
+multiplier-most = 60_000
+
 unfoldable pub multipliers : Range
-multipliers = 0 to 60_000
+multipliers = 0 to multiplier-most
 
 -- scales k, k2, denominator q
 unfoldable pub scales : Range
-scales = 1 to 60_000
+scales = 1 to multiplier-most
 
 -- entries of U, V, W
+abbrev pub direction-most : ℕ
+direction-most = 60_000
+
 unfoldable pub directions : Range
-directions = either-way 60_000
+directions = either-way direction-most
 
 -- state entries
+abbrev pub state-most : ℕ
+state-most = 1_000_000
+
 unfoldable pub state-entries : Range
-state-entries = either-way 1_000_000
+state-entries = either-way state-most
 
 -- z is in the range
 unfoldable pub within : Range → ℤ → Bool

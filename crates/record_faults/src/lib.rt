@@ -51,7 +51,7 @@ fn right_side_fits(bytes: &[u8], place: usize) -> bool
     requires { ⌜ place + 4 ≤ length (now bytes) ⌝ }
     ensures { λ r. ⌜ r ≡ fits right-side (now (bytes .entry)) place ⌝ }
 {
-    (endian::u32_at(bytes, place) + 1000000) % 4294967296 <= 2000000
+    (endian::u32_at(bytes, place) + 2000000000) % 4294967296 <= 4000000000
 }
 
 fn direction_fits(bytes: &[u8], place: usize) -> bool

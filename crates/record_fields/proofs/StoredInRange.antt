@@ -57,9 +57,9 @@ module _ (bytes : List ℕ) (place x : ℕ) where
   unfolding fits number-at number width entry entries littleAt
   entry-fits read small = rw (← read) (within-either 32768 29999 x (omega arith) small)
 
-  pub right-side-fits : x ≡ littleAt 4 bytes place → x < 4294967296 → leb ((x + 1000000) % 4294967296) 2000000 ≡ fits right-side bytes place
+  pub right-side-fits : x ≡ littleAt 4 bytes place → x < 4294967296 → leb ((x + 2000000000) % 4294967296) 4000000000 ≡ fits right-side bytes place
   unfolding fits number-at number width right-side right-sides littleAt
-  right-side-fits read small = rw (← read) (within-either 2147483648 999999 x (omega arith) small)
+  right-side-fits read small = rw (← read) (within-either 2147483648 1999999999 x (omega arith) small)
 
   pub direction-fits : x ≡ littleAt 4 bytes place → x < 4294967296 → leb ((x + 60000) % 4294967296) 120000 ≡ fits direction bytes place
   unfolding fits number-at number width direction directions littleAt

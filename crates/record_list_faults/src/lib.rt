@@ -54,7 +54,7 @@ fn linear_fault(values: &[i64], index: usize, count: usize, place: usize) -> usi
     if at < right {
         return at;
     }
-    run_fault(values, index + count, 1, -1000000, 1000000, 4, right)
+    run_fault(values, index + count, 1, -2000000000, 2000000000, 4, right)
 }
 
 fn weights_fault(values: &[i64], index: usize, count: usize, place: usize) -> usize

@@ -93,14 +93,14 @@ pub line-first : (input part : List ℕ) (place size count : ℕ) → part ≡ d
 unfolding to-come
 line-first input part place size count part-is size-is some = lines-turn (first-record input) count input part place size part-is size-is some
 
--- a room of a size that is being filled, from a place and a count on. A line has at most 276 bytes and its certificate at least one, so a room in which
+-- a room of a size that is being filled, from a place and a count on. A line has at most 282 bytes and its certificate at least one, so a room in which
 -- something was put has left the place behind.
 pub record Filled (input : List ℕ) (from count-from size : ℕ) (room : List ℕ) (end place count : ℕ) : Type 0 where
   pub within : place ≤ length input
   pub counted : count ≤ place + 1
   pub same : length room ≡ size
   pub fits : end ≤ size
-  pub moved : end + 276 * from ≤ 276 * place
+  pub moved : end + 282 * from ≤ 282 * place
   pub whole : to-come input from count-from ≡ take end room ++ to-come input place count
 
 pub filled-none : (input : List ℕ) (from count : ℕ) (room : List ℕ) → from ≤ length input → count ≤ from + 1 → Filled input from count (length room) room 0 from count
@@ -108,7 +108,7 @@ filled-none input from count room within counted = record { within = within; cou
 
 module _ {input room after : List ℕ} {from count-from size end place count next : ℕ} where
   pub filled-more : (line : List ℕ) (taken-here : ℕ) → Filled input from count-from size room end place count → to-come input place count ≡ line ++ to-come input (place + taken-here) (count + 1)
-      → Puts room end line next after → length after ≡ length room → 0 < taken-here → place + taken-here ≤ length input → length line ≤ 276 → end + length line ≤ size
+      → Puts room end line next after → length after ≡ length room → 0 < taken-here → place + taken-here ≤ length input → length line ≤ 282 → end + length line ≤ size
       → Filled input from count-from size after next (place + taken-here) (count + 1)
   filled-more line taken-here far here put same-length some within short fits =
       record {

@@ -31,7 +31,7 @@ fn last_part(input: &[u8], written: usize) -> Part
 
 // Puts the first line, which is the text of the loop without a certificate.
 pub fn first_part(input: &[u8], room: &mut [u8]) -> Part
-    requires { ⌜ 300 ≤ length (now room) ⌝ }
+    requires { ⌜ 306 ≤ length (now room) ⌝ }
     ensures { λ r. ⌜ Begins (sheet-text (now (input .entry))) (now (input .entry)) (now (room .exit)) r ⌝ }
 {
     if input.len() > 65536 {
@@ -56,7 +56,7 @@ pub fn first_part(input: &[u8], room: &mut [u8]) -> Part
 
 // Puts the lines of the certificates that come next, while there is room for a line of any length.
 pub fn next_part(input: &[u8], last: Part, room: &mut [u8]) -> Part
-    requires { ⌜ 300 ≤ length (now room) ⌝ }
+    requires { ⌜ 306 ≤ length (now room) ⌝ }
     requires { ⌜ Goes-on (now input) last ⌝ }
     requires { ⌜ last .place < length (now input) ⌝ }
     ensures { λ r. ⌜ Begins (to-come (now (input .entry)) (last .place) (last .count)) (now (input .entry)) (now (room .exit)) r ⌝ }
@@ -70,7 +70,7 @@ pub fn next_part(input: &[u8], last: Part, room: &mut [u8]) -> Part
     let mut place = last.place;
     let mut count = last.count;
     while place < input.len() {
-        if room.len() - written < 300 {
+        if room.len() - written < 306 {
             break;
         }
         let rest = &input[place..];

@@ -1,4 +1,4 @@
--- No text is longer than the worst case: a certificate's line has at most 276 bytes, the first line at most 24, and each record but the last takes 6 bytes of
+-- No text is longer than the worst case: a certificate's line has at most 282 bytes, the first line at most 24, and each record but the last takes 6 bytes of
 -- the input at least. Assumes nothing.
 use mathlib.Core.Path.{_≡_, refl, sym, ap, _∙_}
 use Prim.Native.Nat.{ℕ, zero, suc, _+_, _*_, _^_, _≤_, _<_, min}
@@ -163,7 +163,7 @@ module _ (l c : List ℕ) (loop-sound : first sound (loop-record l) ≡ done) (n
   verdict-small agreed e = accepted-small (rw e) (kind-of (j .records)) refl
   verdict-small (refusal about number place) e = rw e (rw e at said-is-small)
 
-  pub certificate-size : (count : ℕ) → count < 10 ^ 5 → length (certificate-line l count c) ≤ 276
+  pub certificate-size : (count : ℕ) → count < 10 ^ 5 → length (certificate-line l count c) ≤ 282
   unfolding certificate-line
   certificate-size count few = verdict-size count (judges j) printed few (verdict-small (said judging j) refl)
 
@@ -171,10 +171,10 @@ module _ (l c : List ℕ) (loop-sound : first sound (loop-record l) ≡ done) (n
 
 module _ (l : List ℕ) (loop-sound : first sound (loop-record l) ≡ done) where
   lines-step : (count : ℕ) (input : List ℕ) → 0 < length input → count + length input ≤ 65_537 → length input ≤ 65_536
-      → length (lines l (suc count) (records (after-first input))) ≤ 46 * length (after-first input) + 276 → length (lines l count (records input)) ≤ 46 * length input + 276
+      → length (lines l (suc count) (records (after-first input))) ≤ 47 * length (after-first input) + 282 → length (lines l count (records input)) ≤ 47 * length input + 282
   unfolding after-first
   lines-step count input some few short rest =
-      let line-size : length (certificate-line l count (first-record input)) ≤ 276
+      let line-size : length (certificate-line l count (first-record input)) ≤ 282
       = certificate-size l (first-record input) loop-sound (omega (arith, first-length input)) count (omega arith) in
       rw (lines-more l count input some, length-append)
       (taken-all-or-six input
@@ -185,7 +185,7 @@ module _ (l : List ℕ) (loop-sound : first sound (loop-record l) ≡ done) wher
       left six within = rw length-drop (omega arith)
 
   lines-size : (most count : ℕ) (input : List ℕ) → length input ≤ most → count + length input ≤ 65_537 → length input ≤ 65_536
-      → length (lines l count (records input)) ≤ 46 * length input + 276
+      → length (lines l count (records input)) ≤ 47 * length input + 282
   lines-size zero count input enough few short = rw (no-bytes input enough, lines-none) (omega arith)
   lines-size (suc most) count input enough few short =
       elim (decLt 0 (length input)) [
@@ -201,7 +201,7 @@ loop-told : (l : List ℕ) → length l ≤ 65_536 → Small-told 65_536 (first 
 unfolding loop-record
 loop-told l short = told-more (length l) (first sound (loop-record l)) short (sound-told (loop-record l) loop-known)
 
-pub judged-size : (t : Told) (l rest : List ℕ) → first sound (loop-record l) ≡ t → length l ≤ 65_536 → length rest ≤ 65_536 → length (judged t l rest) ≤ 46 * length rest + 300
+pub judged-size : (t : Told) (l rest : List ℕ) → first sound (loop-record l) ≡ t → length l ≤ 65_536 → length rest ≤ 65_536 → length (judged t l rest) ≤ 47 * length rest + 306
 unfolding judged
 judged-size done l rest e short rest-short =
     rw (length-append, line-loop)
@@ -221,7 +221,7 @@ pub never-longer : (input : List ℕ) → length (sheet-text input) ≤ worst (l
 unfolding line bytes
 never-longer input = by-length (decLt 65_536 (length input))
   where
-    by-length : Dec (65_536 < length input) → length (sheet-text input) ≤ 46 * min (length input) 65_536 + 300
+    by-length : Dec (65_536 < length input) → length (sheet-text input) ≤ 47 * min (length input) 65_536 + 306
     by-length (yes long) = rw (text-too-long input long) (omega arith)
     by-length (no short) =
         let within : length input ≤ 65_536 = omega arith in

@@ -11,11 +11,11 @@ use Rattle.sheet_text.specs.Computing.{computing}
 use Rattle.sheet_text.specs.Sheets.{sheet-text, worst}
 
 -- it differs at every size
-pub byte-short : (size : ℕ) → 46 * min size 65_536 + 299 ≡ worst size → ⊥
+pub byte-short : (size : ℕ) → 47 * min size 65_536 + 305 ≡ worst size → ⊥
 byte-short size same = omega arith
 
 -- it differs at every size past the limit, 65,537 first
-pub without-limit : (size : ℕ) → 65_536 < size → 46 * size + 300 ≡ worst size → ⊥
+pub without-limit : (size : ℕ) → 65_536 < size → 47 * size + 306 ≡ worst size → ⊥
 without-limit size long same = omega arith
 
 -- the text of no input has 17 bytes, so that much room is needed for every size

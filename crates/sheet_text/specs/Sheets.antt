@@ -57,10 +57,10 @@ sheet-text input =
 
 -- ---- the call
 
--- no text is longer: a line has at most 276 bytes, a record takes 6 but for the last, and the first line has 24; past 65,536 there
+-- no text is longer: a line has at most 282 bytes, a record takes 6 but for the last, and the first line has 24; past 65,536 there
 -- is one short line
 abbrev pub worst : ℕ → ℕ
-worst size = 46 * min size 65_536 + 300
+worst size = 47 * min size 65_536 + 306
 
 -- what comes to the call: the input, and how much room there is for the text
 pub record Sheet : Type 0 where

@@ -8,9 +8,9 @@ pub fn room_needed(size: usize) -> usize
     ensures { λ r. ⌜ r ≡ worst size ⌝ }
 {
     if size < 65536 {
-        46 * size + 300
+        47 * size + 306
     } else {
-        46 * 65536 + 300
+        47 * 65536 + 306
     }
 }
 

@@ -11,6 +11,8 @@ use Rattle.whole.specs.Sums.{dot, less, Within}
 use Rattle.whole.proofs.Size.{abs-neg, abs-add, abs-product}
 use Rattle.whole.proofs.SumLaws.{dot-comm, dot-less, dot-bound}
 use Rattle.theory.specs.Exclusions.{Exclusion}
+use Rattle.record.specs.Ranges.{entry-most, multiplier-most, direction-most}
+use Rattle.verdict.specs.Magnitudes.{variables-most, along-most}
 use Rattle.verdict.proofs.SmallSums.{Fits64, Row-small}
 
 pub record Exclusion-sums-fit (row : Row) (c : Exclusion) : Type 0 where
@@ -20,13 +22,13 @@ pub record Exclusion-sums-fit (row : Row) (c : Exclusion) : Type 0 where
 
 -- q, U, V, W within the limits
 pub record Exclusion-small (c : Exclusion) : Type 0 where
-  pub q-small : c .q ≤ 60_000
-  pub U-small : Within 60_000 (c .U)
-  pub V-small : Within 60_000 (c .«V»)
-  pub W-small : Within 60_000 (c .W)
+  pub q-small : c .q ≤ multiplier-most
+  pub U-small : Within direction-most (c .U)
+  pub V-small : Within direction-most (c .«V»)
+  pub W-small : Within direction-most (c .W)
 
-along-row : (entries-of zs : List ℤ) → length entries-of ≤ 16 → Within 30_000 entries-of → Within 60_000 zs → natAbs (dot entries-of zs) ≤ 28_800_000_000
-along-row es zs few small small′ = omega (arith, dot-bound 30_000 60_000 es zs small small′, mul-le-mul-right (30_000 * 60_000) few)
+along-row : (entries-of zs : List ℤ) → length entries-of ≤ variables-most → Within entry-most entries-of → Within direction-most zs → natAbs (dot entries-of zs) ≤ along-most
+along-row es zs few small small′ = omega (arith, dot-bound entry-most direction-most es zs small small′, mul-le-mul-right (entry-most * direction-most) few)
 
 pub exclusion-sums-fit : (row : Row) (c : Exclusion) → Row-small row → Exclusion-small c → Exclusion-sums-fit row c
 exclusion-sums-fit row c r s =

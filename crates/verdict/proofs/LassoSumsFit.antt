@@ -10,18 +10,20 @@ use Rattle.whole.proofs.Size.{abs-neg, abs-add, abs-product}
 use Rattle.whole.proofs.SumLaws.{dot-bound}
 use Rattle.theory.specs.Loops.{A, A′, b, Loop}
 use Rattle.theory.specs.Lassos.{Lasso}
+use Rattle.record.specs.Ranges.{entry-most, right-side-most, multiplier-most, state-most}
+use Rattle.verdict.specs.Magnitudes.{scaled-right-most}
 use Rattle.verdict.proofs.SmallSums.{Fits64, Row-small, Weights, A-sum-small, A′-sum-small, b-sum-small}
 
 pub record Lasso-small (c : Lasso) : Type 0 where
   pub stem-small : Each Row-small (c .stem)
   pub s-count : length (c .s) ≤ 16
-  pub s-small : Within 30_000 (c .s)
-  pub s0-small : natAbs (c .s0) ≤ 1_000_000
-  pub k-small : c .k ≤ 60_000
+  pub s-small : Within entry-most (c .s)
+  pub s0-small : natAbs (c .s0) ≤ right-side-most
+  pub k-small : c .k ≤ multiplier-most
   pub T-weights : Weights (c .T)
-  pub k2-small : c .k2 ≤ 60_000
+  pub k2-small : c .k2 ≤ multiplier-most
   pub H-weights : Weights (c .H)
-  pub h0-small : c .h0 ≤ 60_000
+  pub h0-small : c .h0 ≤ multiplier-most
 
 pub record Lasso-sums-fit (loop : Loop) (c : Lasso) : Type 0 where
   pub TB : (j : ℕ) → Fits64 (sum (c .T) (A j) (c .stem))
@@ -35,7 +37,7 @@ pub record Lasso-sums-fit (loop : Loop) (c : Lasso) : Type 0 where
   pub Hb+h0s0 : Fits64 (sum (c .H) b (loop .rows) +ℤ pos (c .h0) *ℤ c .s0)
   pub k2s0 : Fits64 (pos (c .k2) *ℤ c .s0)
   -- at every state in range
-  pub invariant-fits : (x : List ℤ) → Within 1_000_000 x → Fits64 (dot (c .s) x +ℤ c .s0)
+  pub invariant-fits : (x : List ℤ) → Within state-most x → Fits64 (dot (c .s) x +ℤ c .s0)
 
 pub lasso-sums-fit : (loop : Loop) (c : Lasso) → Each Row-small (loop .rows) → Lasso-small c → Lasso-sums-fit loop c
 lasso-sums-fit loop c small h =
@@ -70,14 +72,14 @@ lasso-sums-fit loop c small h =
           omega (
             arith,
             abs-add (dot (c .s) x) (c .s0),
-            dot-bound 30_000 1_000_000 (c .s) x (h .s-small) in-range,
-            mul-le-mul-right (30_000 * 1_000_000) (h .s-count),
+            dot-bound entry-most state-most (c .s) x (h .s-small) in-range,
+            mul-le-mul-right (entry-most * state-most) (h .s-count),
             h .s0-small,
           );
     }
   where
-    scaled-entry : (k : ℕ) → k ≤ 60_000 → (j : ℕ) → natAbs (pos k *ℤ getD (c .s) j (pos 0)) ≤ 60_000 * 30_000
+    scaled-entry : (k : ℕ) → k ≤ multiplier-most → (j : ℕ) → natAbs (pos k *ℤ getD (c .s) j (pos 0)) ≤ multiplier-most * entry-most
     scaled-entry k most j = abs-product (pos k) (getD (c .s) j (pos 0)) most (h .s-small j)
 
-    scaled-right : (k : ℕ) → k ≤ 60_000 → natAbs (pos k *ℤ c .s0) ≤ 60_000 * 1_000_000
+    scaled-right : (k : ℕ) → k ≤ multiplier-most → natAbs (pos k *ℤ c .s0) ≤ scaled-right-most
     scaled-right k most = abs-product (pos k) (c .s0) most (h .s0-small)

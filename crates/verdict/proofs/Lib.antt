@@ -10,6 +10,7 @@ pub mod PartsInRange
 pub mod RefusedCalls
 pub mod SampleSheet
 pub mod StageLaws
+pub mod MagnitudesCounted
 pub mod SmallSums
 pub mod SumsFit
 pub mod ExclusionSumsFit

@@ -13,6 +13,8 @@ use Rattle.whole.proofs.Size.{abs-neg, abs-add}
 use Rattle.whole.proofs.SumLaws.{dot-bound}
 use Rattle.theory.specs.Loops.{A, A′, b, Loop}
 use Rattle.theory.specs.Rankings.{Ranking, rank, start, fall}
+use Rattle.record.specs.Ranges.{state-most}
+use Rattle.verdict.specs.Magnitudes.{column-most, right-sum-most, value-most}
 use Rattle.verdict.proofs.SmallSums.{Fits64, Row-small, Weights, A-sum-small, A′-sum-small, b-sum-small}
 
 pub record Ranking-sums-fit (loop : Loop) (c : Ranking) : Type 0 where
@@ -21,13 +23,13 @@ pub record Ranking-sums-fit (loop : Loop) (c : Ranking) : Type 0 where
   pub ZA : (j : ℕ) → Fits64 (sum (c .Z) (A j) (loop .rows))
   pub ZA′ : (j : ℕ) → Fits64 (sum (c .Z) (A′ j) (loop .rows))
   pub ZA+ZA′ : (j : ℕ) → Fits64 (sum (c .Z) (A j) (loop .rows) +ℤ sum (c .Z) (A′ j) (loop .rows))
-  -- far below 2^63: what is shown has at most 12 and 13 digits
-  pub rank-within : Within 117_000_000_000 (rank loop c)
-  pub start-within : natAbs (start loop c) ≤ 3_900_000_000_000
-  pub fall-within : natAbs (fall loop c) ≤ 3_900_000_000_000
+  -- far below 2^63: what is shown has at most 12 and 16 digits
+  pub rank-within : Within column-most (rank loop c)
+  pub start-within : natAbs (start loop c) ≤ right-sum-most
+  pub fall-within : natAbs (fall loop c) ≤ right-sum-most
   -- at every state in range
-  pub value : (x : List ℤ) → Within 1_000_000 x → Fits64 (dot (rank loop c) x)
-  pub above-start : (x : List ℤ) → Within 1_000_000 x → Fits64 (dot (rank loop c) x -ℤ start loop c)
+  pub value : (x : List ℤ) → Within state-most x → Fits64 (dot (rank loop c) x)
+  pub above-start : (x : List ℤ) → Within state-most x → Fits64 (dot (rank loop c) x -ℤ start loop c)
 
 within-tabulate : (n : ℕ) (f : ℕ → ℤ) (most : ℕ) → ((j : ℕ) → natAbs (f j) ≤ most) → Within most (tabulate n f)
 unfolding tabulate
@@ -39,9 +41,9 @@ pub rank-length : (loop : Loop) (c : Ranking) → length (rank loop c) ≡ loop 
 unfolding rank
 rank-length loop c = length-tabulate (loop .variables) _
 
-rank-small : (loop : Loop) (c : Ranking) → Weights (c .Z) → Each Row-small (loop .rows) → Within 117_000_000_000 (rank loop c)
+rank-small : (loop : Loop) (c : Ranking) → Weights (c .Z) → Each Row-small (loop .rows) → Within column-most (rank loop c)
 unfolding rank
-rank-small loop c weights small = within-tabulate (loop .variables) (λ j. sum (c .Z) (A′ j) (loop .rows)) 117_000_000_000 (A′-sum-small (c .Z) (loop .rows) weights small)
+rank-small loop c weights small = within-tabulate (loop .variables) (λ j. sum (c .Z) (A′ j) (loop .rows)) column-most (A′-sum-small (c .Z) (loop .rows) weights small)
 
 pub sums-fit : (loop : Loop) (c : Ranking) → loop .variables ≤ 16 → Each Row-small (loop .rows) → Weights (c .Y) → Weights (c .Z) → Ranking-sums-fit loop c
 unfolding start fall
@@ -68,13 +70,13 @@ sums-fit loop c few small Y-weights Z-weights =
           omega (arith, value-small x in-range, abs-add (dot (rank loop c) x) (negℤ (start loop c)), abs-neg (start loop c), start-small);
     }
   where
-    start-small : natAbs (start loop c) ≤ 3_900_000_000_000
+    start-small : natAbs (start loop c) ≤ right-sum-most
     start-small = omega (arith, abs-neg (sum (c .Y) b (loop .rows)), b-sum-small (c .Y) (loop .rows) Y-weights small)
 
-    value-small : (x : List ℤ) → Within 1_000_000 x → natAbs (dot (rank loop c) x) ≤ 16 * (117_000_000_000 * 1_000_000)
+    value-small : (x : List ℤ) → Within state-most x → natAbs (dot (rank loop c) x) ≤ value-most
     value-small x in-range =
         omega (
           arith,
-          dot-bound 117_000_000_000 1_000_000 (rank loop c) x (rank-small loop c Z-weights small) in-range,
+          dot-bound column-most state-most (rank loop c) x (rank-small loop c Z-weights small) in-range,
           rank-length loop c,
         )

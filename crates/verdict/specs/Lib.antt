@@ -10,6 +10,8 @@ pub mod Contents
 pub mod Fails
 -- what judging answers
 pub mod Judging
+-- how large the numbers can get
+pub mod Magnitudes
 -- 01's numbers for each outcome and grade
 pub mod Outcomes
 -- the two records of a judge, and what the certificate claims

@@ -42,7 +42,7 @@ module _ (c : tie.After-first-end) where
   abbrev line : List ℕ
   line = judged (first sound (loop-record loopbytes)) loopbytes []
 
-  small : length line ≤ 300
+  small : length line ≤ 306
   small = judged-size (first sound (loop-record loopbytes)) loopbytes [] refl (rw loopbytes-are (omega (arith, first-length input))) (omega arith)
 
 put-sheet-requires : tie.Need-put-sheet-requires

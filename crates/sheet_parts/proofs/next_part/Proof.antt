@@ -88,7 +88,7 @@ module _ (c : tie.After-first-end2 Inv-loop μ-loop) where
   abbrev this-line : List ℕ
   this-line = certificate-line (first-record (input begun)) (at-loop .loop .count) certificate
 
-  this-short : length this-line ≤ 276
+  this-short : length this-line ≤ 282
   this-short =
       certificate-size (first-record (input begun)) certificate (sound begun .told) (omega (arith, certificate-long, within, long, short begun)) (at-loop .loop .count)
       (omega (arith, at-loop .loop .inv .counted, at-loop .loop .inv .within, short begun))
