@@ -133,6 +133,15 @@ pub fn longer_ranking(
     let yb = longer_right(rows, start, n, m, certificate, place, right);
     let zb = longer_right(rows, start, n, m, certificate, place + 2 * (m + 1), right);
     longer_totals(
-        rows, start, n, m, certificate, place, s, yb.sum, zb.sum, rank,
+        rows,
+        start,
+        n,
+        m,
+        certificate,
+        place,
+        s,
+        yb.sum,
+        zb.sum,
+        rank,
     )
 }

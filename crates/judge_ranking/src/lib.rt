@@ -57,14 +57,7 @@ fn holds_at(
 }
 
 // How many columns come before the first at which the condition of a number fails: n where it holds at all.
-fn first_failing(
-    number: usize,
-    ys: &[i64],
-    zs: &[i64],
-    n: usize,
-    ylift: i64,
-    zlift: i64,
-) -> usize
+fn first_failing(number: usize, ys: &[i64], zs: &[i64], n: usize, ylift: i64, zlift: i64) -> usize
     requires { ⌜ (2 * n ≤ length (now ys)) × (2 * n ≤ length (now zs)) × (n ≤ 16)
         × AllModest (2 * n) (now ys) × AllModest (2 * n) (now zs) × Modest ylift × Modest zlift ⌝ }
     ensures { λ r. ⌜ r ≡ before-failing n (holds-at number (now (ys .entry)) ylift (now (zs .entry)) zlift n) ⌝ }
@@ -188,7 +181,5 @@ pub fn ranking(
     let mut ys = [0i64; 32];
     let mut zs = [0i64; 32];
     judge_sums::add_rows(&mut ys, &mut zs, rows, start, n, certificate, 6, z, m);
-    by_totals(
-        &ys, &zs, n, ylift.sum, zlift.sum, yb.sum, zb.sum, rank,
-    )
+    by_totals(&ys, &zs, n, ylift.sum, zlift.sum, yb.sum, zb.sum, rank)
 }

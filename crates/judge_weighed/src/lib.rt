@@ -75,18 +75,7 @@ pub fn weighed(
 {
     let mut late = 0;
     for j in 0..n {
-        let holds = column_holds(
-            rows,
-            start,
-            n,
-            count,
-            j,
-            certificate,
-            place,
-            v,
-            h,
-            k,
-        );
+        let holds = column_holds(rows, start, n, count, j, certificate, place, v, h, k);
         if !holds.now {
             return Fault {
                 number: number,

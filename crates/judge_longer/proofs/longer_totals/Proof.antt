@@ -183,12 +183,12 @@ returns c =
     let ys = y .take-row .last .0 in
     let zs = z-row .take-row2 .last .0 in
     let told =
-        rw (
-          toZ-ofZ {w = w64} {z = lift-y .result .sum} (modest-fits (y-modest asked)),
-          toZ-ofZ {w = w64} {z = lift-z .result .sum} (modest-fits (z-modest asked)),
-          toZ-ofZ (s asked .fits .yb),
-          toZ-ofZ (s asked .fits .zb),
-        ) at (called .ensures) in
+    rw (
+      toZ-ofZ {w = w64} {z = lift-y .result .sum} (modest-fits (y-modest asked)),
+      toZ-ofZ {w = w64} {z = lift-z .result .sum} (modest-fits (z-modest asked)),
+      toZ-ofZ (s asked .fits .yb),
+      toZ-ofZ (s asked .fits .zb),
+    ) at (called .ensures) in
     λ right y-is z-is.
     ranked-by (longer-held (a .rows .now) (a .start) (a .n) (a .m) (a .certificate .now) (a .s) right) (ranking-held (a .certificate .now) (a .place) (a .m + 1))
     ys (lift-y .result .sum) zs (lift-z .result .sum)

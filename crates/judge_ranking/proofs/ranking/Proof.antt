@@ -117,12 +117,12 @@ returns c =
     let yb = righted rows .before .right-of in
     let zb = righted rows .right-of2 in
     let told =
-        rw (
-          toZ-ofZ {w = w64} {z = ylift .result .sum} (modest-fits (ylift-modest rows)),
-          toZ-ofZ {w = w64} {z = zlift .result .sum} (modest-fits (zlift-modest rows)),
-          toZ-ofZ {w = w64} {z = yb .result .sum} (grown-fits (yb-grows rows)),
-          toZ-ofZ {w = w64} {z = zb .result .sum} (grown-fits (zb-grows rows)),
-        ) at (called .ensures) in
+    rw (
+      toZ-ofZ {w = w64} {z = ylift .result .sum} (modest-fits (ylift-modest rows)),
+      toZ-ofZ {w = w64} {z = zlift .result .sum} (modest-fits (zlift-modest rows)),
+      toZ-ofZ {w = w64} {z = yb .result .sum} (grown-fits (yb-grows rows)),
+      toZ-ofZ {w = w64} {z = zb .result .sum} (grown-fits (zb-grows rows)),
+    ) at (called .ensures) in
     ranked-by (loop-held (a .rows .now) (a .start) (a .n) (a .m)) (ranking-held (a .certificate .now) 6 (a .m)) (sums .last .0) (ylift .result .sum) (sums .last .1 .0) (zlift .result .sum)
     (totalled (a .rows .now) (a .certificate .now) (a .start) (a .n) (a .m) 6 (sums .last .0) (ylift .result .sum) (sums .last .1 .0) (zlift .result .sum) (few rows)
     (sums .ensures .0) (ylift .ensures) (sums .ensures .1) (zlift .ensures))
