@@ -1,4 +1,5 @@
--- What the tests of a lasso's conditions tell, and what is shown where all hold: start, fall and the rank over the loop with the added row.
+-- What the tests of a lasso's conditions tell, and what is shown where all hold: start, fall and the rank over the loop with the added
+-- row.
 use lib.IntN.{ℤ}
 use mathlib.Core.List.{List}
 use Rattle.theory.specs.Conditions.{lassoTold}

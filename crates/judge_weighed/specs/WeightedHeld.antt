@@ -1,5 +1,5 @@
--- The weighted rows that bytes hold by their places: `count` rows over n variables from `start` on, their multipliers and the entries of v in
--- a certificate, from a place on each; and the factors and the limit that they are held to, which come as values.
+-- The weighted rows that bytes hold by their places: `count` rows over n variables from `start` on, their multipliers and the entries of v
+-- in a certificate, from a place on each; and the factors and the limit that they are held to, which come as values.
 use Prim.Native.Nat.{ℕ}
 use mathlib.Core.Bool.{Bool}
 use mathlib.Core.Path.{_≡_}

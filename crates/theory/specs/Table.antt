@@ -116,7 +116,8 @@ computed =
 -- opens all that the tables compute with
 unfoldable pub computing : Unit {0}
 unfolding
-    told computed rankingTold exclusionTold lassoTold rankingTests exclusionTests weighedTests lassoTests _at-each_unless_ of first tabulate
+    told computed rankingTold exclusionTold lassoTold rankingTests exclusionTests weighedTests lassoTests _at-each_unless_ of first
+    tabulate
     sum dot scale add less rank start fall bound P S1 S7-loop S7 S9-loop S10-loop S10 S14-loop S14 unlike-loop unlike-ranking
     excluded-loop unlike-exclusion lasso-loop unlike-lasso
 computing = tt
