@@ -2,7 +2,7 @@
 //! conditions that just hold, just fail, or fail together.
 
 use crate::construct::{self, Built, Inequality, Style};
-use crate::damage::{any_record, any_values, damage, limits, right_sides};
+use crate::damage::{any_record, any_values, damage, limits};
 use crate::forms::{bytes_of, certificate_shape, certificate_values, row_values, Pair};
 use crate::oracle::conditions::{dot, Exclusion, Lasso};
 use crate::oracle::judging::{self, Certificate};
@@ -10,6 +10,7 @@ use crate::oracle::layout::{Kind, Range, Shape, RIGHT, ROWS, STATE, VARIABLES};
 use crate::oracle::record::Record;
 use crate::oracle::sheet::LONGEST_INPUT;
 use crate::random::Random;
+use crate::right_sides;
 
 /// The room that a sheet is lent: measured by what a call with an empty room tells.
 #[derive(Clone, Copy, Debug)]
@@ -372,7 +373,7 @@ fn disturb(random: &mut Random, shape: Shape, values: &mut Vec<i64>) {
 
 /// Moves a right side to one past an end of its range.
 fn move_right_side(random: &mut Random, shape: Shape, values: &mut [i64]) {
-    let rights = right_sides(shape);
+    let rights = right_sides::indices(shape);
     if rights.is_empty() || values.len() != shape.fields().len() {
         return;
     }

@@ -3,6 +3,7 @@
 use crate::forms::{bytes_of, put_length};
 use crate::oracle::layout::{Field, Form, Kind, Range, Shape, RIGHT, ROWS, VARIABLES};
 use crate::random::Random;
+use crate::right_sides;
 
 /// Numbers at and past the ends of a range, and at the ends of what a form holds.
 pub fn limits(range: Range, form: Range) -> [i64; 6] {
@@ -149,7 +150,7 @@ fn change_value(random: &mut Random, shape: Shape, bytes: &mut [u8]) {
 
 /// A right side one past an end of its range; of a lasso's, one time in three s0, the last of them.
 fn change_right_side(random: &mut Random, shape: Shape, bytes: &mut [u8]) {
-    let rights = right_sides(shape);
+    let rights = right_sides::indices(shape);
     if rights.is_empty() || bytes.len() != 4 + shape.length() {
         return;
     }
@@ -161,13 +162,6 @@ fn change_right_side(random: &mut Random, shape: Shape, bytes: &mut [u8]) {
     };
     let value = random.pick(&[RIGHT.low - 1, RIGHT.high + 1]);
     Form::I32.put(value, bytes, shape.places()[rights[chosen]]);
-}
-
-/// Which of a record's values are right sides: b, or d and then s0.
-pub fn right_sides(shape: Shape) -> Vec<usize> {
-    let fields = shape.fields();
-    let is_right = |&i: &usize| fields[i].range == RIGHT;
-    (0..fields.len()).filter(is_right).collect()
 }
 
 fn change_bytes(random: &mut Random, bytes: &mut [u8]) {

@@ -3,10 +3,16 @@
 use crate::cases::Case;
 use crate::compare::Told;
 use crate::construct::NEAR;
-use crate::damage::right_sides;
 use crate::oracle::layout::{Form, Kind, Shape, RIGHT};
 use crate::oracle::record::{loop_record, stated_length};
 use crate::oracle::Refusal;
+
+/// Which of a record's values are right sides: b, or d and then s0.
+pub fn indices(shape: Shape) -> Vec<usize> {
+    let fields = shape.fields();
+    let is_right = |&i: &usize| fields[i].range == RIGHT;
+    (0..fields.len()).filter(is_right).collect()
+}
 
 /// A right side: its name in the paper, where it stands in its record, and what it is.
 struct RightSide {
@@ -17,7 +23,7 @@ struct RightSide {
 
 /// Those of a record of this shape, whose values are told one by one.
 fn of_shape(shape: Shape, value: impl Fn(usize, usize) -> i64) -> Vec<RightSide> {
-    let rights = right_sides(shape);
+    let rights = indices(shape);
     let places = shape.places();
     let last = rights.last().copied();
     let right_side = |&i: &usize| RightSide {
@@ -62,7 +68,7 @@ fn of_record(bytes: &[u8], n: usize, m: usize) -> Vec<RightSide> {
 
 /// Those of a list of values that has the length of a record.
 fn of_values(kind: u64, n: u64, m: u64, values: &[i64]) -> Vec<RightSide> {
-    let shape = match (Kind::of(kind), values) {
+    let (kind, ms) = match (Kind::of(kind), values) {
         (Some(kind @ Kind::Loop), _) => (kind, 0),
         (Some(kind @ Kind::Lasso), [ms @ 0..=64, ..]) => (kind, *ms as usize),
         _ => return Vec::new(),
@@ -70,7 +76,7 @@ fn of_values(kind: u64, n: u64, m: u64, values: &[i64]) -> Vec<RightSide> {
     if n > 16 || m > 64 {
         return Vec::new();
     }
-    let ((kind, ms), n, m) = (shape, n as usize, m as usize);
+    let (n, m) = (n as usize, m as usize);
     let shape = Shape { kind, n, m, ms };
     if values.len() != shape.fields().len() {
         return Vec::new();
@@ -122,18 +128,24 @@ fn of_case(case: &Case, record: u64) -> Vec<RightSide> {
     }
 }
 
-/// Whether a right side of a case lies near an end of its range. Of a sheet the loop alone is looked at.
-pub fn near_ends(case: &Case) -> bool {
-    let near = |side: &RightSide| RIGHT.holds(side.value) && RIGHT.high - side.value.abs() <= NEAR;
+/// The ends of the range near which a right side of the case lies. Of a sheet the loop alone is looked at.
+pub fn ends_near(case: &Case) -> Vec<i64> {
+    let sides = all_of(case);
+    let near = |end: i64, value: i64| RIGHT.holds(value) && (value - end).abs() <= NEAR;
+    let has = |end: &i64| sides.iter().any(|side| near(*end, side.value));
+    [RIGHT.low, RIGHT.high].into_iter().filter(has).collect()
+}
+
+fn all_of(case: &Case) -> Vec<RightSide> {
     if let Case::Sheet { input, .. } = case {
         let length = match input.len() {
             0..=3 => 0,
             _ => 4 + stated_length(input),
         };
         let looped = &input[..length.min(input.len())];
-        return of_record(looped, 0, 0).iter().any(near);
+        return of_record(looped, 0, 0);
     }
-    (0..=2).any(|record| of_case(case, record).iter().any(near))
+    (0..=2).flat_map(|record| of_case(case, record)).collect()
 }
 
 /// The right side that is refused, if it is one past an end of its range.

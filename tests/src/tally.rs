@@ -1,7 +1,7 @@
 //! Counts of the cases, and the quotas that a whole run must meet: 30 % accepted; every kind, every refusal number with
 //! each record that it can speak of, and every line of a sheet at least 500 times; every condition that fails at least
 //! 100 times, and 50 times each at its first place, at its last, and together with the next condition; a right side near
-//! an end of its range in a tenth of the cases, and one past it, for b, d and s0, either way, 50 times.
+//! each end of its range in a tenth of the cases, and one past it, for b, d and s0, 50 times.
 
 use crate::cases::Case;
 use crate::compare::{Answer, Lent, Told};
@@ -20,8 +20,9 @@ const LEAST_FAILING: u64 = 100;
 const LEAST_WAY: u64 = 50;
 /// The fewest accepted cases in a hundred.
 const LEAST_ACCEPTED: u64 = 30;
-/// The fewest cases in a hundred that have a right side near an end of its range, accepted ones among the accepted.
+/// The fewest cases in a hundred that have a right side near each end of its range; of the accepted, near either.
 const LEAST_NEAR_ENDS: u64 = 10;
+const ENDS: [i64; 2] = [RIGHT.low, RIGHT.high];
 
 /// What must come up, under the names that `Tally::count` gives.
 const QUOTAS: [(&str, &[&str]); 6] = [
@@ -207,7 +208,7 @@ fn right_side_quotas() -> Vec<(&'static str, String, u64)> {
     }
     for (call, fields) in refused {
         for field in fields {
-            for end in [RIGHT.low, RIGHT.high] {
+            for end in ENDS {
                 quotas.push((call, right_sides::past_name(field, end), LEAST_WAY));
             }
         }
@@ -220,7 +221,8 @@ fn right_side_quotas() -> Vec<(&'static str, String, u64)> {
 pub struct Tally {
     cases: u64,
     accepted: u64,
-    near_ends: u64,
+    /// Cases with a right side near the lower end, and near the upper.
+    near_ends: [u64; 2],
     accepted_near_ends: u64,
     counts: BTreeMap<(&'static str, String), u64>,
 }
@@ -241,11 +243,13 @@ impl Tally {
             .any(|line| !line.contains("refused") && line != "line loop");
         let done = answer.told.number_and_record().0 == 0;
         let accepted = done && (!matches!(case, Case::Sheet { .. }) || accepts_a_line);
-        let near_ends = right_sides::near_ends(case);
+        let ends = right_sides::ends_near(case);
         self.accepted += u64::from(accepted);
-        self.near_ends += u64::from(near_ends);
-        self.accepted_near_ends += u64::from(accepted && near_ends);
-        if near_ends && accepted {
+        for (count, end) in self.near_ends.iter_mut().zip(ENDS) {
+            *count += u64::from(ends.contains(&end));
+        }
+        if accepted && !ends.is_empty() {
+            self.accepted_near_ends += 1;
             self.add(call, near_ends_name(&answer_name(case, &answer.told)));
         }
         if let Some(name) = right_sides::one_past(case, &answer.told) {
@@ -270,7 +274,9 @@ impl Tally {
     pub fn add_all(&mut self, other: Tally) {
         self.cases += other.cases;
         self.accepted += other.accepted;
-        self.near_ends += other.near_ends;
+        for (count, more) in self.near_ends.iter_mut().zip(other.near_ends) {
+            *count += more;
+        }
         self.accepted_near_ends += other.accepted_near_ends;
         for (name, count) in other.counts {
             *self.counts.entry(name).or_insert(0) += count;
@@ -289,7 +295,9 @@ impl Tally {
         let print = |what: &str, count: u64, all: u64| {
             println!("{what} {count} of {all} ({} %)", 100 * count / all.max(1));
         };
-        print("right sides near an end", self.near_ends, self.cases);
+        for (count, end) in self.near_ends.into_iter().zip(ENDS) {
+            print(&format!("right sides near {end}"), count, self.cases);
+        }
         print(
             "accepted with such a right side",
             self.accepted_near_ends,
@@ -327,12 +335,10 @@ impl Tally {
             }
         };
         share("accepted", self.accepted, self.cases, LEAST_ACCEPTED);
-        share(
-            "right sides near an end",
-            self.near_ends,
-            self.cases,
-            LEAST_NEAR_ENDS,
-        );
+        for (count, end) in self.near_ends.into_iter().zip(ENDS) {
+            let what = format!("right sides near {end}");
+            share(&what, count, self.cases, LEAST_NEAR_ENDS);
+        }
         share(
             "accepted with such a right side",
             self.accepted_near_ends,
