@@ -12,8 +12,8 @@
  * call changes nothing. No call keeps a pointer or touches anything but its lists, so calls may run at once.
  *
  * Ranges. Variables n: 1 to 16. Loop rows m and stem rows ms: 0 to 64 each. Right sides b, d and s0: 2,000,000,000
- * either way. Entries of a state: 1,000,000 either way. docs/FORMAT.md has those of the other values. Start and fall
- * have 16 digits at most, a bound 18.
+ * either way. Entries of a state: 1,000,000 either way. docs/FORMAT.md has those of the other values. No start or fall
+ * is beyond 7,800,000,000,000,000 either way.
  *
  * Refusals. Every answer starts with a number and a place:
  *
