@@ -11,7 +11,9 @@
  * Lent lists. A call that is done fills the first places of the list or room it was lent, and the rest stays. A refused
  * call changes nothing. No call keeps a pointer or touches anything but its lists, so calls may run at once.
  *
- * Ranges. Variables n: 1 to 16. Loop rows m and stem rows ms: 0 to 64 each.
+ * Ranges. Variables n: 1 to 16. Loop rows m and stem rows ms: 0 to 64 each. Right sides b, d and s0: 2,000,000,000
+ * either way. Entries of a state: 1,000,000 either way. docs/FORMAT.md has those of the other values. No start or fall
+ * is beyond 7,800,000,000,000,000 either way.
  *
  * Refusals. Every answer starts with a number and a place:
  *
@@ -168,8 +170,9 @@ cushiedoo_writing cushiedoo_write_record(uint64_t kind, uint64_t n, uint64_t m, 
 
 /*
  * Writes the text that the program "sheet" prints for an input: one loop record, then certificate records to the end.
- * The only refusal is 7. The room that its place tells depends on the length of the input alone and is enough for every
- * input of that length; a call with an empty room is a cheap way to learn it.
+ * The only refusal is 7. The room that its place tells is 47 * min(input_len, 65,536) + 306 bytes: it depends on the
+ * length of the input alone and is enough for every input of that length. A call with an empty room is a cheap way to
+ * learn it.
  */
 cushiedoo_writing cushiedoo_sheet(const uint8_t *input, size_t input_len, uint8_t *text, size_t text_len);
 

@@ -105,7 +105,7 @@ def number(data, at, form):
     return z - 2 * half if form != "u16" and z >= half else z
 
 
-RANGE = {"entry": (-30000, 30000), "right": (-1000000, 1000000), "multiplier": (0, 60000), "scale": (1, 60000), "direction": (-60000, 60000)}
+RANGE = {"entry": (-30000, 30000), "right": (-2000000000, 2000000000), "multiplier": (0, 60000), "scale": (1, 60000), "direction": (-60000, 60000)}
 FORM = {"entry": "i16", "right": "i32", "multiplier": "u16", "scale": "u16", "direction": "i32"}
 
 

@@ -10,6 +10,9 @@
 
 enum { MOST_VARIABLES = 16, MOST_ROWS = 64 };
 
+/* The largest b, d and s0, and the largest entry of a state, either way. */
+static const int64_t MOST_RIGHT = 2000000000, MOST_STATE = 1000000;
+
 static inline uint32_t u16_at(const uint8_t *p) { return (uint32_t)p[0] | (uint32_t)p[1] << 8; }
 
 static inline uint32_t u32_at(const uint8_t *p) { return u16_at(p) | u16_at(p + 2) << 16; }
@@ -20,7 +23,7 @@ static inline int64_t i32_at(const uint8_t *p) { return (int32_t)u32_at(p); }
 
 static inline int entry_bad(int64_t entry) { return (uint64_t)(entry + 30000) > 60000; }
 
-static inline int right_bad(int64_t right) { return (uint64_t)(right + 1000000) > 2000000; }
+static inline int right_bad(int64_t right) { return (uint64_t)(right + MOST_RIGHT) > (uint64_t)(2 * MOST_RIGHT); }
 
 static inline int direction_bad(int64_t value) { return (uint64_t)(value + 60000) > 120000; }
 
@@ -483,7 +486,7 @@ cushiedoo_bounded onepass_bound(const uint8_t *loop, size_t loop_len, const uint
     if (told.certificate.number) return unbounded(refused(told.certificate.number, told.certificate.place, 2));
     if (state_len != told.n) return unbounded(refused(10, state_len, 0));
     for (uint64_t j = 0; j < told.n; j++)
-        if (state[j] < -1000000 || state[j] > 1000000) return unbounded(refused(9, j, 0));
+        if (state[j] < -MOST_STATE || state[j] > MOST_STATE) return unbounded(refused(9, j, 0));
     if (told.condition.number) return unbounded(refused(told.condition.number, told.condition.place, 2));
     if (told.kind == CUSHIEDOO_LASSO && !invariant_holds(told.s, state, told.n)) return unbounded(refused(11, 0, 2));
     bounded = unbounded(accepted(&told));

@@ -6,6 +6,10 @@ use cushiedoo::raw::{Bounded, Verdict};
 
 const MOST_VARIABLES: usize = 16;
 const MOST_ROWS: usize = 64;
+/// The largest b, d and s0, either way.
+const MOST_RIGHT: i64 = 2_000_000_000;
+/// The largest entry of a state, either way.
+const MOST_STATE: i64 = 1_000_000;
 
 /// A refusal's number and place.
 type Fault = (u64, u64);
@@ -99,7 +103,7 @@ impl Cursor<'_> {
         for i in 0..count {
             self.entries(&mut rows.now[i][..n])?;
             self.entries(&mut rows.next[i][..n])?;
-            rows.right[i] = self.i32(1_000_000)?;
+            rows.right[i] = self.i32(MOST_RIGHT)?;
         }
         Ok(())
     }
@@ -238,7 +242,7 @@ impl Lasso {
         let mut cursor = Cursor { bytes, place: 8 };
         cursor.rows(&mut self.stem, n, ms)?;
         cursor.entries(&mut self.s[..n])?;
-        self.s0 = cursor.i32(1_000_000)?;
+        self.s0 = cursor.i32(MOST_RIGHT)?;
         self.k = cursor.scale()?;
         cursor.multipliers(&mut self.t[..ms])?;
         self.k2 = cursor.scale()?;
@@ -428,7 +432,7 @@ fn state_in_range(state: &[i64], n: usize) -> Result<(), Refused> {
     if state.len() != n {
         return Err((10, state.len() as u64, 0));
     }
-    let fits = |entry: &i64| (-1_000_000..=1_000_000).contains(entry);
+    let fits = |entry: &i64| (-MOST_STATE..=MOST_STATE).contains(entry);
     match state.iter().position(|entry| !fits(entry)) {
         Some(index) => Err((9, index as u64, 0)),
         None => Ok(()),

@@ -1,12 +1,12 @@
 //! What is measured: each call on loops of five sizes with certificates of each kind, dense and sparse, accepted and
-//! refused at several points.
+//! refused at several points. A tenth of the right sides lie near the ends of their range.
 
 use crate::contenders::Contender;
 use cushiedoo::raw::{Bounded, Verdict};
-use second_opinion::construct::{self, bring_to_edge, fail, Built, Inequality, Style};
+use second_opinion::construct::{self, bring_to_edge, fail, Built, Inequality, Style, NEAR};
 use second_opinion::oracle::conditions::Row;
 use second_opinion::oracle::judging::Certificate;
-use second_opinion::oracle::layout::Kind;
+use second_opinion::oracle::layout::{Kind, RIGHT};
 use second_opinion::random::Random;
 
 #[derive(Clone, Copy, Debug, PartialEq, Eq)]
@@ -208,7 +208,8 @@ fn state_for(n: usize, certificate: &Certificate) -> Vec<i64> {
 fn build(kind: Kind, n: usize, m: usize, fill: Fill) -> Built {
     let style = Style {
         entry: 9,
-        right: 20,
+        right: SMALL,
+        ends: false,
         weight: 9,
         zeros: if fill == Fill::Dense { 0 } else { 9 },
         mirrored: false,
@@ -222,7 +223,66 @@ fn build(kind: Kind, n: usize, m: usize, fill: Fill) -> Built {
         }
     });
     let mut fitting = candidates.filter(|built| fits(built, m));
-    fitting.next().expect("one of the seeds fits")
+    let mut built = fitting.next().expect("one of the seeds fits");
+    spread(&mut built);
+    built
+}
+
+/// The largest right side that is drawn.
+const SMALL: i64 = 20;
+
+/// Moves the right sides of a tenth of the rows at least, of a loop and of a stem, near the ends of their range. No sum
+/// of right sides that a condition compares gets larger by it. An exclusion's rows allow the upper end only.
+fn spread(built: &mut Built) {
+    let Built { pair, pivots } = built;
+    let rows = &mut pair.rows;
+    let lower = |rows: &mut [Row], pivot: Option<usize>| {
+        if let Some(row) = pivot {
+            rows[row].right = RIGHT.low;
+        }
+    };
+    match &mut pair.certificate {
+        Certificate::Exclusion(_) => {
+            let tenth = rows.iter_mut().step_by(10);
+            tenth.for_each(|row| row.right = RIGHT.high);
+        }
+        Certificate::Ranking(ranking) => {
+            lower(rows, pivots.fall);
+            spread_rows(rows, &[&ranking.z]);
+        }
+        Certificate::Lasso(lasso) => {
+            lower(rows, pivots.fall);
+            lower(rows, pivots.kept);
+            spread_rows(rows, &[&lasso.ranking.z, &lasso.h]);
+            lower(&mut lasso.stem, pivots.stem);
+            spread_rows(&mut lasso.stem, &[&lasso.t]);
+        }
+    }
+}
+
+fn near_an_end(row: &Row) -> bool {
+    RIGHT.high - row.right.abs() <= NEAR
+}
+
+/// Moves right sides until a tenth of them lie near an end: of a row without weight alone, of two rows with the same
+/// weights to either end, so that the weighted sums stay.
+fn spread_rows(rows: &mut [Row], weights: &[&[i64]]) {
+    let wanted = rows.len().div_ceil(10);
+    let weightless = |i: usize| weights.iter().all(|list| list[i] == 0);
+    let alike = |i: usize, j: usize| weights.iter().all(|list| list[i] == list[j]);
+    for i in 0..rows.len() {
+        let near = rows.iter().filter(|row| near_an_end(row)).count();
+        if near >= wanted || near_an_end(&rows[i]) {
+            continue;
+        }
+        let other = (i + 1..rows.len()).find(|&j| alike(i, j) && !near_an_end(&rows[j]));
+        if weightless(i) {
+            rows[i].right = RIGHT.high;
+        } else if let Some(j) = other {
+            rows[i].right += RIGHT.high - SMALL;
+            rows[j].right -= RIGHT.high - SMALL;
+        }
+    }
 }
 
 fn fits(built: &Built, m: usize) -> bool {
@@ -299,4 +359,28 @@ fn fail_kept(built: &mut Built) {
 fn raise_next(rows: &mut [Row], y: &[i64]) {
     let weighty = y.iter().position(|weight| *weight != 0);
     rows[weighty.expect("some multiplier is above 0")].next[0] += 1;
+}
+
+#[cfg(test)]
+mod tests {
+    use super::*;
+
+    #[test]
+    fn a_tenth_of_the_rows_have_right_sides_near_an_end() {
+        for kind in KINDS {
+            for (n, m) in SIZES {
+                for fill in [Fill::Dense, Fill::Sparse] {
+                    let built = build(kind, n, m, fill);
+                    let enough = |rows: &[Row]| {
+                        let near = rows.iter().filter(|row| near_an_end(row)).count();
+                        near * 10 >= rows.len()
+                    };
+                    assert!(enough(&built.pair.rows), "{built:?}");
+                    if let Certificate::Lasso(lasso) = &built.pair.certificate {
+                        assert!(enough(&lasso.stem), "{built:?}");
+                    }
+                }
+            }
+        }
+    }
 }

@@ -10,6 +10,7 @@ use crate::oracle::layout::{Kind, Range, Shape, RIGHT, ROWS, STATE, VARIABLES};
 use crate::oracle::record::Record;
 use crate::oracle::sheet::LONGEST_INPUT;
 use crate::random::Random;
+use crate::right_sides;
 
 /// The room that a sheet is lent: measured by what a call with an empty room tells.
 #[derive(Clone, Copy, Debug)]
@@ -71,7 +72,8 @@ pub fn case(random: &mut Random) -> Case {
 fn some_style(random: &mut Random) -> Style {
     Style {
         entry: random.pick(&[1, 3, 9, 100, 30_000]),
-        right: random.pick(&[0, 3, 20, 1000, 1_000_000]),
+        right: random.pick(&[0, 3, 20, 1000, 1_000_000, RIGHT.high]),
+        ends: random.one_in(4),
         weight: random.pick(&[0, 1, 3, 9, 60_000]),
         zeros: random.pick(&[0, 3, 6, 9]),
         mirrored: random.one_in(3),
@@ -343,10 +345,11 @@ const WHOLE_I64: Range = Range {
 
 /// Changes a value list: its length, or a value to a limit or far past it.
 fn disturb(random: &mut Random, shape: Shape, values: &mut Vec<i64>) {
-    match random.below(6) {
+    match random.below(9) {
         0 => values.truncate(random.below(3)),
         1 => drop(values.pop()),
         2 => values.push(random.signed(1000)),
+        3..=5 => move_right_side(random, shape, values),
         _ => {
             let fields = shape.fields();
             let place = match random.below(4) {
@@ -366,6 +369,19 @@ fn disturb(random: &mut Random, shape: Shape, values: &mut Vec<i64>) {
             }
         }
     }
+}
+
+/// Moves a right side to one past an end of its range.
+fn move_right_side(random: &mut Random, shape: Shape, values: &mut [i64]) {
+    let rights = right_sides::indices(shape);
+    if rights.is_empty() || values.len() != shape.fields().len() {
+        return;
+    }
+    let chosen = match random.one_in(3) {
+        true => rights[rights.len() - 1],
+        false => random.pick(&rights),
+    };
+    values[chosen] = random.pick(&[RIGHT.low - 1, RIGHT.high + 1]);
 }
 
 /// The kind as a caller may give it: right, another, none, or one that is right in its lowest bytes only.

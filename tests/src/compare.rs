@@ -4,7 +4,7 @@
 use crate::cases::{Case, SheetRoom};
 use crate::oracle::judging::{self, Bounded, Verdict};
 use crate::oracle::record::{self, Reading, Writing};
-use crate::oracle::sheet;
+use crate::oracle::{sheet, Refusal};
 use cushiedoo::raw;
 use std::ops::Deref;
 
@@ -18,6 +18,17 @@ pub enum Told {
 }
 
 impl Told {
+    /// The refusal number and its place.
+    pub fn refusal(&self) -> Refusal {
+        let (number, place) = match self {
+            Told::Reading(reading) => (reading.number, reading.place),
+            Told::Writing(writing) => (writing.number, writing.place),
+            Told::Verdict(verdict) => (verdict.number, verdict.place),
+            Told::Bounded(bounded) => (bounded.verdict.number, bounded.verdict.place),
+        };
+        Refusal { number, place }
+    }
+
     /// The refusal number, and the record that it speaks of (0 where a call tells none).
     pub fn number_and_record(&self) -> (u64, u64) {
         match self {

@@ -1,8 +1,9 @@
 //! Damage to the bytes of a record: each way in which a record can be malformed, and its limits.
 
 use crate::forms::{bytes_of, put_length};
-use crate::oracle::layout::{Field, Form, Kind, Range, Shape, ROWS, VARIABLES};
+use crate::oracle::layout::{Field, Form, Kind, Range, Shape, RIGHT, ROWS, VARIABLES};
 use crate::random::Random;
+use crate::right_sides;
 
 /// Numbers at and past the ends of a range, and at the ends of what a form holds.
 pub fn limits(range: Range, form: Range) -> [i64; 6] {
@@ -22,7 +23,7 @@ fn field_limit(random: &mut Random, field: Field) -> i64 {
 
 /// Damages a record of this shape in one way. Now and then the damage is none, since limits are in range too.
 pub fn damage(random: &mut Random, shape: Shape, bytes: &mut Vec<u8>) {
-    match random.below(12) {
+    match random.below(13) {
         0 => truncate(random, bytes),
         1 => extend(random, bytes),
         2 => restate_length(random, bytes),
@@ -30,7 +31,9 @@ pub fn damage(random: &mut Random, shape: Shape, bytes: &mut Vec<u8>) {
         4 | 5 => change_kind(random, bytes),
         6 | 7 => change_count(random, shape, bytes),
         8 | 9 if shape.kind == Kind::Lasso => change_count(random, shape, bytes),
+        10 if shape.kind == Kind::Lasso => change_right_side(random, shape, bytes),
         8..=10 => change_value(random, shape, bytes),
+        11 => change_right_side(random, shape, bytes),
         _ => change_bytes(random, bytes),
     }
 }
@@ -140,13 +143,25 @@ fn change_value(random: &mut Random, shape: Shape, bytes: &mut [u8]) {
         1 | 2 => random.pick(&part_starts),
         _ => random.below(fields.len()),
     };
-    let before: usize = fields[..chosen]
-        .iter()
-        .map(|field| field.form.width())
-        .sum();
-    let place = shape.kind.values_place() + before;
+    let place = shape.places()[chosen];
     let value = field_limit(random, fields[chosen]);
     fields[chosen].form.put(value, bytes, place);
+}
+
+/// A right side one past an end of its range; of a lasso's, one time in three s0, the last of them.
+fn change_right_side(random: &mut Random, shape: Shape, bytes: &mut [u8]) {
+    let rights = right_sides::indices(shape);
+    if rights.is_empty() || bytes.len() != 4 + shape.length() {
+        return;
+    }
+    let last = rights.len() - 1;
+    let chosen = match shape.kind {
+        Kind::Lasso if last == 0 || random.one_in(3) => last,
+        Kind::Lasso => random.below(last),
+        _ => random.below(last + 1),
+    };
+    let value = random.pick(&[RIGHT.low - 1, RIGHT.high + 1]);
+    Form::I32.put(value, bytes, shape.places()[rights[chosen]]);
 }
 
 fn change_bytes(random: &mut Random, bytes: &mut [u8]) {
@@ -160,7 +175,7 @@ fn change_bytes(random: &mut Random, bytes: &mut [u8]) {
 
 /// A record whose values are drawn from their ranges, limits among them; it is well formed.
 pub fn any_values(random: &mut Random, shape: Shape) -> Vec<i64> {
-    let size = random.pick(&[1, 3, 100, 2_000_000]);
+    let size = random.pick(&[1, 3, 100, RIGHT.high]);
     let mut values: Vec<i64> = Vec::new();
     for field in shape.fields() {
         let Range { low, high } = field.range;

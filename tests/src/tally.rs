@@ -1,21 +1,28 @@
 //! Counts of the cases, and the quotas that a whole run must meet: 30 % accepted; every kind, every refusal number with
 //! each record that it can speak of, and every line of a sheet at least 500 times; every condition that fails at least
-//! 100 times, and 50 times each at its first place, at its last, and together with the next condition.
+//! 100 times, and 50 times each at its first place, at its last, and together with the next condition; a right side near
+//! each end of its range in a tenth of the cases, and one past it, for b, d and s0, 50 times.
 
 use crate::cases::Case;
 use crate::compare::{Answer, Lent, Told};
 use crate::construct::places;
 use crate::oracle::judging;
+use crate::oracle::layout::RIGHT;
 use crate::oracle::Refusal;
+use crate::right_sides;
 use std::collections::BTreeMap;
 
 /// The fewest times that anything must come up.
 const LEAST: u64 = 500;
-/// The fewest times that a failing condition must come up, and each way in which it comes up.
+/// The fewest times that a failing condition must come up, or something accepted with a right side near an end of its
+/// range; and each way in which a condition fails or a right side is past its end.
 const LEAST_FAILING: u64 = 100;
 const LEAST_WAY: u64 = 50;
 /// The fewest accepted cases in a hundred.
 const LEAST_ACCEPTED: u64 = 30;
+/// The fewest cases in a hundred that have a right side near each end of its range; of the accepted, near either.
+const LEAST_NEAR_ENDS: u64 = 10;
+const ENDS: [i64; 2] = [RIGHT.low, RIGHT.high];
 
 /// What must come up, under the names that `Tally::count` gives.
 const QUOTAS: [(&str, &[&str]); 6] = [
@@ -169,11 +176,54 @@ fn overtaken(first: u64, second: u64) -> String {
     format!("{first} and {second} in an earlier place")
 }
 
+/// Accepted with a right side near an end of its range.
+fn near_ends_name(accepted: &str) -> String {
+    format!("{accepted}, right sides near an end")
+}
+
+/// What must come up of right sides in each call: accepted ones near an end, and refused ones past it.
+fn right_side_quotas() -> Vec<(&'static str, String, u64)> {
+    let accepted = [
+        ("read_loop", "kind 1"),
+        ("read_certificate", "kind 4"),
+        ("write_record", "kind 1"),
+        ("write_record", "kind 4"),
+        ("judge", "ranking"),
+        ("judge", "exclusion whole"),
+        ("judge", "exclusion fractions"),
+        ("judge", "lasso"),
+        ("bound", "ranking, bound above 1"),
+        ("bound", "lasso, bound above 1"),
+    ];
+    let refused = [
+        ("read_loop", &["b"][..]),
+        ("read_certificate", &["d", "s0"]),
+        ("write_record", &["b", "d", "s0"]),
+        ("judge", &["b", "d", "s0"]),
+        ("bound", &["b", "d", "s0"]),
+    ];
+    let mut quotas = Vec::new();
+    for (call, name) in accepted {
+        quotas.push((call, near_ends_name(name), LEAST_FAILING));
+    }
+    for (call, fields) in refused {
+        for field in fields {
+            for end in ENDS {
+                quotas.push((call, right_sides::past_name(field, end), LEAST_WAY));
+            }
+        }
+    }
+    quotas
+}
+
 /// How often each thing came up, by call.
 #[derive(Default)]
 pub struct Tally {
     cases: u64,
     accepted: u64,
+    /// Cases with a right side near the lower end, and near the upper.
+    near_ends: [u64; 2],
+    accepted_near_ends: u64,
     counts: BTreeMap<(&'static str, String), u64>,
 }
 
@@ -192,8 +242,18 @@ impl Tally {
             .iter()
             .any(|line| !line.contains("refused") && line != "line loop");
         let done = answer.told.number_and_record().0 == 0;
-        if done && (!matches!(case, Case::Sheet { .. }) || accepts_a_line) {
-            self.accepted += 1;
+        let accepted = done && (!matches!(case, Case::Sheet { .. }) || accepts_a_line);
+        let ends = right_sides::ends_near(case);
+        self.accepted += u64::from(accepted);
+        for (count, end) in self.near_ends.iter_mut().zip(ENDS) {
+            *count += u64::from(ends.contains(&end));
+        }
+        if accepted && !ends.is_empty() {
+            self.accepted_near_ends += 1;
+            self.add(call, near_ends_name(&answer_name(case, &answer.told)));
+        }
+        if let Some(name) = right_sides::one_past(case, &answer.told) {
+            self.add(call, name);
         }
         if !(done && matches!(case, Case::Sheet { .. })) {
             self.add(call, answer_name(case, &answer.told));
@@ -214,6 +274,10 @@ impl Tally {
     pub fn add_all(&mut self, other: Tally) {
         self.cases += other.cases;
         self.accepted += other.accepted;
+        for (count, more) in self.near_ends.iter_mut().zip(other.near_ends) {
+            *count += more;
+        }
+        self.accepted_near_ends += other.accepted_near_ends;
         for (name, count) in other.counts {
             *self.counts.entry(name).or_insert(0) += count;
         }
@@ -228,12 +292,18 @@ impl Tally {
                 .collect();
             println!("{call}: {}", parts.join("; "));
         }
-        println!(
-            "accepted {} of {} ({} %)",
+        let print = |what: &str, count: u64, all: u64| {
+            println!("{what} {count} of {all} ({} %)", 100 * count / all.max(1));
+        };
+        for (count, end) in self.near_ends.into_iter().zip(ENDS) {
+            print(&format!("right sides near {end}"), count, self.cases);
+        }
+        print(
+            "accepted with such a right side",
+            self.accepted_near_ends,
             self.accepted,
-            self.cases,
-            100 * self.accepted / self.cases.max(1)
         );
+        print("accepted", self.accepted, self.cases);
     }
 
     /// The quotas that are not met, in words.
@@ -256,9 +326,25 @@ impl Tally {
                 ask(call, name, least);
             }
         }
-        if self.accepted * 100 < self.cases * LEAST_ACCEPTED {
-            unmet.push(format!("accepted: less than {LEAST_ACCEPTED} %"));
+        for (call, name, least) in right_side_quotas() {
+            ask(call, name, least);
         }
+        let mut share = |what: &str, count: u64, all: u64, least: u64| {
+            if count * 100 < all * least {
+                unmet.push(format!("{what}: less than {least} %"));
+            }
+        };
+        share("accepted", self.accepted, self.cases, LEAST_ACCEPTED);
+        for (count, end) in self.near_ends.into_iter().zip(ENDS) {
+            let what = format!("right sides near {end}");
+            share(&what, count, self.cases, LEAST_NEAR_ENDS);
+        }
+        share(
+            "accepted with such a right side",
+            self.accepted_near_ends,
+            self.accepted,
+            LEAST_NEAR_ENDS,
+        );
         unmet
     }
 }

@@ -108,7 +108,7 @@ pub fn write_record(
 }
 
 /// Writes the text that the program "sheet" prints for `input` into the first places of `text`, and tells its bytes.
-/// The only refusal is 7; the room that it tells is enough for every input of that length.
+/// The only refusal is 7; the room that it tells, 47 * min(bytes, 65,536) + 306, is enough for every input of that length.
 pub fn sheet(input: &[u8], text: &mut [u8]) -> Result<usize, Refusal> {
     // SAFETY: both slices are valid for their lengths, and `text` is borrowed alone.
     unsafe { raw::cushiedoo_sheet(input.as_ptr(), input.len(), text.as_mut_ptr(), text.len()) }

@@ -159,4 +159,46 @@ fn the_sheet_of_p() {
     let refusal = sheet(&input, &mut []).expect_err("there is no room");
     assert_eq!(refusal.number, 7);
     assert!(refusal.place as usize >= text.len());
+    let needs = |bytes: usize| {
+        let refusal = sheet(&vec![0; bytes], &mut []).expect_err("there is no room");
+        refusal.place
+    };
+    let rooms = [0, 1, 82, 65_536, 65_537].map(needs);
+    assert_eq!(rooms, [306, 353, 4_160, 3_080_498, 3_080_498]);
+}
+
+#[test]
+fn right_sides_go_to_their_ends_and_a_state_to_its_own() {
+    let end = 2_000_000_000;
+    let looped = record(1, 1, 2, &[0, 0, end, 0, 0, -end]);
+    let ranking = record(2, 1, 2, &[60_000, 0, 0, 60_000]);
+    let outcome = Outcome::Ranking {
+        start: -120_000_000_000_000,
+        fall: 120_000_000_000_000,
+    };
+    assert_eq!(
+        judge(&looped, &ranking, &mut [0]),
+        Verdict::Accepted(outcome)
+    );
+    assert_eq!(
+        bound(&looped, &ranking, &[1_000_000]),
+        Ok(Bounded { outcome, bound: 2 })
+    );
+    let refused = bound(&looped, &ranking, &[1_000_001]).expect_err("the state is too large");
+    assert_eq!((refused.number, refused.record), (9, Record::Neither));
+
+    for past in [end + 1, -end - 1] {
+        let mut room = [0; 64];
+        let refused = write_record(1, 1, 1, &[0, 0, past], &mut room).expect_err("b is too large");
+        assert_eq!((refused.number, refused.place), (6, 14));
+        let mut looped = looped.clone();
+        looped[14..18].copy_from_slice(&(past as i32).to_le_bytes());
+        let read = read_loop(&looped, &mut [0; 6]).expect_err("b is too large");
+        assert_eq!((read.number, read.place), (6, 14));
+        let judged = judge(&looped, &ranking, &mut [0]);
+        assert_eq!(
+            judged.to_string(),
+            "refused 6, place 14 (its first byte), in the loop: value out of range, the first in layout order"
+        );
+    }
 }

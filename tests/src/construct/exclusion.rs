@@ -1,6 +1,6 @@
 //! Loops with an accepted exclusion.
 
-use super::{no_step, opposite, Built, Pivots, Style};
+use super::{near_an_end, no_step, opposite, Built, Pivots, Style};
 use crate::forms::Pair;
 use crate::oracle::conditions::{dot, Exclusion, Row};
 use crate::oracle::judging::Certificate;
@@ -26,7 +26,7 @@ fn allow(row: &mut Row, exclusion: &Exclusion, tight: bool) {
     if dot(&row.now, &exclusion.v) + dot(&row.next, &exclusion.u) > 0 {
         *row = opposite(row);
     }
-    row.right = ceiling(step_of(row, exclusion), exclusion.q.into());
+    row.right = ceiling(step_of(row, exclusion), exclusion.q.into()).max(RIGHT.low);
     if !RIGHT.holds(row.right) {
         *row = no_step(row.now.len(), 0);
     }
@@ -58,7 +58,9 @@ pub fn exclusion(random: &mut Random, n: usize, m: usize, style: Style) -> Built
     let mut rows = style.rows(random, n, m);
     for row in &mut rows {
         allow(row, &exclusion, style.mirrored && random.one_in(2));
-        if random.one_in(3) {
+        if style.ends && !random.one_in(3) {
+            row.right = row.right.max(near_an_end(random));
+        } else if random.one_in(3) {
             row.right = (row.right + random.between(0, 1000)).min(RIGHT.high);
         }
     }

@@ -180,7 +180,8 @@ mod tests {
             let mut random = Random::new(seed);
             let style = Style {
                 entry: random.pick(&[1, 9, 30_000]),
-                right: random.pick(&[0, 20, 1_000_000]),
+                right: random.pick(&[0, 20, RIGHT.high]),
+                ends: random.one_in(3),
                 weight: random.pick(&[0, 9, 60_000]),
                 zeros: random.pick(&[0, 9]),
                 mirrored: random.one_in(2),

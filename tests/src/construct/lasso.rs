@@ -1,7 +1,7 @@
 //! Loops with an accepted lasso.
 
-use super::ranking::{ranking, settle_ranking, Added};
-use super::{drop_half, in_range, some_fall, total, two_places, Built, Pivots, Style};
+use super::ranking::{ranking, settle_ranking, steep_ranking, Added};
+use super::{drop_half, in_range, some_fall, total, two_places, Built, Pivots, Style, NEAR};
 use crate::forms::Pair;
 use crate::oracle::conditions::{Lasso, Ranking, Row};
 use crate::oracle::judging::Certificate;
@@ -27,7 +27,7 @@ fn some_invariant(random: &mut Random, n: usize, style: Style) -> Invariant {
     };
     Invariant {
         s: sparse.entries(random, n),
-        s0: random.between(-right, right),
+        s0: style.right_side(random).clamp(-right, right),
         k: random.between(1, scale),
         k2: random.between(1, scale),
         h0: random.between(0, scale),
@@ -181,7 +181,10 @@ fn closed_kept(
 
 /// A lasso whose invariant says nothing (s = 0, s0 >= 0), over a loop with a ranking.
 fn lasso_of_ranking(random: &mut Random, n: usize, m: usize, ms: usize, style: Style) -> Built {
-    let mut built = ranking(random, n, m, style);
+    let mut built = match m >= 2 && random.one_in(4) {
+        true => steep_ranking(random, n, m),
+        false => ranking(random, n, m, style),
+    };
     let Certificate::Ranking(mut ranking) = built.pair.certificate else {
         unreachable!("a ranking was built");
     };
@@ -191,7 +194,7 @@ fn lasso_of_ranking(random: &mut Random, n: usize, m: usize, ms: usize, style: S
     built.pair.certificate = Certificate::Lasso(Lasso {
         stem: style.rows(random, n, ms),
         s: vec![0; n],
-        s0: random.pick(&[0, 1, style.right]),
+        s0: random.pick(&[0, 1, style.right, RIGHT.high]),
         k: random.between(1, style.weight.max(1)),
         t: vec![0; ms],
         k2,
@@ -207,7 +210,10 @@ fn lasso_without_start(random: &mut Random, n: usize, m: usize, ms: usize, style
     let mut stem = style.rows(random, n, ms);
     let mut t = style.weights(random, ms);
     let pivot = random.below(ms);
-    let (k, s0) = (random.between(1, 9), -random.between(1, 1000));
+    let (k, s0) = match random.one_in(3) {
+        true => (1, RIGHT.low + random.between(0, NEAR)),
+        false => (random.between(1, 9), -random.between(1, 1000)),
+    };
     let zeros = vec![0; n];
     settle_sums(&mut stem, &mut t, pivot, (&zeros, &zeros, k * s0));
     let k2 = random.between(1, 9);

@@ -28,6 +28,8 @@ pub struct Style {
     pub entry: i64,
     /// The largest right side.
     pub right: i64,
+    /// Whether most right sides lie near an end of their range, whatever the largest one is.
+    pub ends: bool,
     /// The largest multiplier.
     pub weight: i64,
     /// How many in ten entries are 0.
@@ -69,6 +71,14 @@ impl Style {
         (0..count).map(|_| self.entry(random)).collect()
     }
 
+    fn right_side(&self, random: &mut Random) -> i64 {
+        if self.ends && !random.one_in(4) {
+            near_an_end(random)
+        } else {
+            random.between(-self.right, self.right)
+        }
+    }
+
     /// Rows of any kind; mirrored, each second one is the opposite of the one before it.
     pub fn rows(&self, random: &mut Random, n: usize, count: usize) -> Vec<Row> {
         let mut rows: Vec<Row> = Vec::with_capacity(count);
@@ -78,7 +88,7 @@ impl Style {
                 _ => Row {
                     now: self.entries(random, n),
                     next: self.entries(random, n),
-                    right: random.between(-self.right, self.right),
+                    right: self.right_side(random),
                 },
             };
             rows.push(row);
@@ -98,6 +108,16 @@ impl Style {
         }
         weights
     }
+}
+
+/// So far from an end of its range a right side still lies near it.
+pub const NEAR: i64 = 1_000;
+
+/// A right side near an end of its range, and often at it.
+fn near_an_end(random: &mut Random) -> i64 {
+    let off = random.pick(&[0, 1, NEAR]);
+    let off = random.between(0, off);
+    random.pick(&[RIGHT.low + off, RIGHT.high - off])
 }
 
 /// The row whose left side is the opposite and whose right side lets some states through.

@@ -4,6 +4,7 @@ use super::{drop_half, in_range, no_step, some_fall, total, two_places, Built, P
 use crate::forms::Pair;
 use crate::oracle::conditions::{Ranking, Row};
 use crate::oracle::judging::Certificate;
+use crate::oracle::layout::RIGHT;
 use crate::random::Random;
 
 /// The added row of a lasso with its two weights. A plain ranking has one of zeros.
@@ -120,13 +121,13 @@ pub fn steep_ranking(random: &mut Random, n: usize, m: usize) -> Built {
     let mut entry = || random.pick(&[-30_000, -29_999, 0, 1, 30_000]);
     let entries: Vec<i64> = (0..n).map(|_| entry()).collect();
     let weight = random.pick(&[60_000, 59_999, 1]);
-    let fall = random.pick(&[1_000_000, 999_999, 1]);
+    let fall = random.pick(&[RIGHT.high, RIGHT.high - 1, 1]);
     let (mut rows, mut y, mut z) = (Vec::new(), Vec::new(), Vec::new());
     for _pair in 0..m / 2 {
         rows.push(Row {
             now: entries.clone(),
             next: vec![0; n],
-            right: random.pick(&[1_000_000, -1_000_000, 0]),
+            right: random.pick(&[RIGHT.high, RIGHT.low, 0]),
         });
         rows.push(Row {
             now: entries.clone(),

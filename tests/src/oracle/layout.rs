@@ -24,7 +24,7 @@ pub const ROWS: Range = Range::new(0, 64);
 /// Entries of A, A', B, B', s.
 pub const ENTRY: Range = Range::new(-30_000, 30_000);
 /// b, d, s0.
-pub const RIGHT: Range = Range::new(-1_000_000, 1_000_000);
+pub const RIGHT: Range = Range::new(-2_000_000_000, 2_000_000_000);
 /// Multipliers; h0 is one of them.
 pub const MULTIPLIER: Range = Range::new(0, 60_000);
 /// Scales k, k2, denominator q.
@@ -156,6 +156,17 @@ impl Shape {
             Kind::Exclusion => 4 + 12 * n,
             Kind::Lasso => 18 + 2 * n + ms * (4 * n + 6) + 6 * m,
         }
+    }
+
+    /// Where each value stands in the record.
+    pub fn places(self) -> Vec<usize> {
+        let mut place = self.kind.values_place();
+        let mut places = Vec::new();
+        for field in self.fields() {
+            places.push(place);
+            place += field.form.width();
+        }
+        places
     }
 
     /// The values of the body in layout order, without the n and m of kind 1.

@@ -1,7 +1,7 @@
-//! The paper's own samples, S1 to S14, the sheet it prints, and the inputs that it asks to be run.
+//! The paper's own samples, S1 to S14, the sheet it prints, and the inputs that it asks to be run; right sides at their ends.
 
 use super::judging::{bound, judge, Bounded, Verdict};
-use super::record::{read_loop, write_record};
+use super::record::{read_certificate, read_loop, write_record};
 use super::sheet::sheet;
 
 fn record(kind: u64, n: u64, m: u64, values: &[i64]) -> Vec<u8> {
@@ -205,4 +205,151 @@ fn lengths_of_p() {
         (reading.number, reading.place)
     });
     assert_eq!(answers, [(1, 5), (1, 6), (1, 45), (0, 0), (2, 46)]);
+}
+
+/// Right sides go to 2,000,000,000 either way; a state still goes to 1,000,000.
+const END: i64 = 2_000_000_000;
+
+/// A list of parts, each a number and how often it stands there.
+fn repeated(parts: &[(i64, usize)]) -> Vec<i64> {
+    parts
+        .iter()
+        .flat_map(|&(number, times)| vec![number; times])
+        .collect()
+}
+
+/// So many rows with the same entries of A, the same of A', and this right side; n is 16.
+fn rows_of(count: usize, now: i64, next: i64, right: i64) -> Vec<i64> {
+    repeated(&[(now, 16), (next, 16), (right, 1)]).repeat(count)
+}
+
+#[test]
+fn right_sides_end_at_two_thousand_million_in_reading_writing_and_judging() {
+    let mut room = [0; 64];
+    let mut told = |kind, values: &[i64]| {
+        let writing = write_record(kind, 1, 1, values, &mut room);
+        (writing.number, writing.place)
+    };
+    for (right, number) in [(END, 0), (-END, 0), (END + 1, 6), (-END - 1, 6)] {
+        let place = |place| if number == 6 { place } else { 0 };
+        assert_eq!(told(1, &[0, 0, right]), (number, place(14)));
+        let d = [1, 0, 0, right, 0, 0, 1, 0, 1, 0, 0, 0, 0, 0, 0];
+        assert_eq!(told(4, &d), (number, place(12)));
+        let s0 = [1, 0, 0, 0, 0, right, 1, 0, 1, 0, 0, 0, 0, 0, 0];
+        assert_eq!(told(4, &s0), (number, place(18)));
+
+        let put = |mut record: Vec<u8>, at: usize| {
+            record[at..at + 4].copy_from_slice(&(right as i32).to_le_bytes());
+            record
+        };
+        let looped = record(1, 1, 1, &[0, 0, -1]);
+        let b = put(looped.clone(), 14);
+        let read = read_loop(&b, &mut [0; 3]);
+        assert_eq!((read.number, read.place), (number, place(14)));
+        let ranking = record(2, 1, 1, &[0, 1]);
+        let judged = judge(&b, &ranking, &mut [0]);
+        let by_its_sign = if right < 0 { 0 } else { 24 };
+        let (of_b, of_loop) = if number == 6 {
+            (6, 1)
+        } else {
+            (by_its_sign, 2)
+        };
+        assert_eq!((judged.number, judged.place), (of_b, place(14)));
+        assert_eq!(judged.record, if of_b == 0 { 0 } else { of_loop });
+        let lasso = record(4, 1, 1, &[1, 0, 0, 0, 0, 0, 1, 0, 1, 0, 0, 0, 0, 1, 0]);
+        for at in [12, 18] {
+            let lasso = put(lasso.clone(), at);
+            let read = read_certificate(&lasso, 1, 1, &mut [0; 15]);
+            assert_eq!((read.number, read.place), (number, place(at as u64)));
+            let judged = judge(&looped, &lasso, &mut [0]);
+            if number == 6 {
+                assert_eq!(judged, refused(6, at as u64, 2));
+            } else {
+                // k s0 must not lie below Td: only a negative s0 fails
+                let fails = at == 18 && right < 0;
+                assert_eq!(judged.number, if fails { 43 } else { 0 });
+            }
+        }
+    }
+    let no_step = record(1, 1, 1, &[0, 0, 1_000_001 - END]);
+    let s13 = record(2, 1, 1, &[0, 1]);
+    assert_eq!(bound(&no_step, &s13, &[1_000_000]).bound, 1);
+    assert_eq!(
+        bound(&no_step, &s13, &[1_000_001]).verdict,
+        refused(9, 0, 0)
+    );
+}
+
+#[test]
+fn the_largest_start_and_fall() {
+    let looped = record(1, 16, 64, &rows_of(64, 0, 0, -END));
+    let certificate = record(2, 16, 64, &[60_000; 128]);
+    let told = ranking(7_680_000_000_000_000, 7_680_000_000_000_000);
+    let mut rank = [9; 16];
+    assert_eq!(judge(&looped, &certificate, &mut rank), told);
+    assert_eq!(rank, [0; 16]);
+
+    let looped = record(
+        1,
+        16,
+        64,
+        &[rows_of(63, 0, 0, END), rows_of(1, 0, 0, -END)].concat(),
+    );
+    let weights = repeated(&[(60_000, 63), (0, 64), (60_000, 1)]);
+    let certificate = record(2, 16, 64, &weights);
+    let told = ranking(-7_560_000_000_000_000, 120_000_000_000_000);
+    assert_eq!(judge(&looped, &certificate, &mut rank), told);
+}
+
+#[test]
+fn the_largest_start_and_fall_of_a_lasso_and_a_state_inside_its_invariant() {
+    // s.x = 30,000 (x1 + .. + x16); the rows s.x <= b, -s.x' <= b and s.x' <= b, 61 rows 0 <= b, all b -2,000,000,000
+    let rows = [
+        rows_of(1, 30_000, 0, -END),
+        rows_of(1, 0, -30_000, -END),
+        rows_of(1, 0, 30_000, -END),
+        rows_of(61, 0, 0, -END),
+    ];
+    let looped = record(1, 16, 64, &rows.concat());
+    // the stem -s.x' <= -2,000,000,000; s, s0, k, T, k2, H on the second row, h0, and all of Y and Z
+    let certificate = [
+        vec![1],
+        rows_of(1, 0, -30_000, -END),
+        repeated(&[(30_000, 16), (-END, 1), (60_000, 3)]),
+        repeated(&[(0, 1), (60_000, 1), (0, 62), (0, 1), (60_000, 130)]),
+    ];
+    let certificate = record(4, 16, 64, &certificate.concat());
+    let lasso = Verdict {
+        outcome: 4,
+        ..ranking(7_800_000_000_000_000, 7_800_000_000_000_000)
+    };
+    assert_eq!(judge(&looped, &certificate, &mut [0; 16]), lasso);
+    let bounded = |state: &[i64]| bound(&looped, &certificate, state);
+    let inside = Bounded {
+        verdict: lasso,
+        bound: 0,
+    };
+    assert_eq!(bounded(&[1_000_000; 16]), inside);
+    // 480,000 x is 2,000,000,000 between x = 4,166 and x = 4,167
+    assert_eq!(bounded(&[4_167; 16]), inside);
+    assert_eq!(bounded(&[4_166; 16]).verdict, refused(11, 0, 2));
+}
+
+#[test]
+fn a_large_bound() {
+    let rows = [
+        rows_of(31, -30_000, 0, END),
+        rows_of(31, -30_000, 30_000, 0),
+        rows_of(1, 0, 0, -1),
+        rows_of(1, 0, 0, END),
+    ];
+    let looped = record(1, 16, 64, &rows.concat());
+    let y = repeated(&[(60_000, 31), (0, 32), (60_000, 1)]);
+    let z = repeated(&[(0, 31), (60_000, 31), (1, 1), (0, 1)]);
+    let certificate = record(2, 16, 64, &[y, z].concat());
+    let told = Bounded {
+        verdict: ranking(-3_840_000_000_000_000, 1),
+        bound: 896_640_000_000_000_001,
+    };
+    assert_eq!(bound(&looped, &certificate, &[1_000_000; 16]), told);
 }
