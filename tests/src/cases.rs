@@ -360,7 +360,8 @@ fn disturb(random: &mut Random, shape: Shape, values: &mut Vec<i64>) {
                 let range = fields[place].range;
                 let far = limits(range, WHOLE_I64);
                 let near = limits(range, fields[place].form.holds());
-                let wrapped = values[place] + random.pick(&[1 << 16, -(1 << 16), 1 << 32]);
+                let off = random.pick(&[1 << 16, -(1 << 16), 1 << 32]);
+                let wrapped = values[place].wrapping_add(off);
                 values[place] = match random.below(3) {
                     0 => random.pick(&far),
                     1 => random.pick(&near),
