@@ -45,7 +45,7 @@ unfolding multipliers _to_
 nonneg-all zs h = each-then (In multipliers) NonNeg zs (λ z in-range. in-range .least) h
 
 -- a scale is at least 1
-scale-positive : (k : ℕ) → In scales (pos k) → 1 ≤ k
+pub scale-positive : (k : ℕ) → In scales (pos k) → 1 ≤ k
 unfolding scales _to_
 scale-positive k h = omega (arith, le-fact (v (pos 1)) (v (pos k)) (h .least))
 
