@@ -175,9 +175,9 @@ module _ (loop : Loop) (c : Exclusion) (size : OfSize loop c) (q-positive : 1 �
   exclusion-excludes = (
     λ r δ0 δ ranks. none-at (c .q) 1 q-positive (omega arith) (c .«V») (c .W) (sym (one-mul (c .q))) (sym (scale-one (c .«V»))) (sym (scale-one (c .W))) r δ0 δ (ranks (c .q) q-positive),
     λ whole.
-    let both = both-true (all-divided (c .q) (c .W)) (all-divided (c .q) (c .«V»)) whole in
-    none-at 1 (c .q) (omega arith) q-positive (quotients (c .q) (c .«V»)) (quotients (c .q) (c .W)) (sym (mul-one (c .q)))
-    (quotients-times (c .q) (c .«V») (both .1)) (quotients-times (c .q) (c .W) (both .0)),
+        let both = both-true (all-divided (c .q) (c .W)) (all-divided (c .q) (c .«V»)) whole in
+        none-at 1 (c .q) (omega arith) q-positive (quotients (c .q) (c .«V»)) (quotients (c .q) (c .W)) (sym (mul-one (c .q)))
+        (quotients-times (c .q) (c .«V») (both .1)) (quotients-times (c .q) (c .W) (both .0)),
   )
 
 -- no loop has multipliers that meet the ranking conditions and (q, U, V, W) that meet the exclusion's

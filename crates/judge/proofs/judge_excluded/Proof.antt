@@ -32,7 +32,7 @@ returns c =
 
 grade-requires : tie.Need-grade-requires
 grade-requires c κs =
-    let s = c .before .before .before .before in
+    let s = c .before .before .before .before .before in
     let l = s .pre .0 in
     let sound = s .pre .1 in
     (exclusion-long _ _ _ l certificates-judged _ sound, n-few _ _ _ l, q-positive _ _ _ l certificates-judged _ sound)
