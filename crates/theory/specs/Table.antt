@@ -1,6 +1,6 @@
 -- What the conditions tell of the samples of 01, of the sheet's second certificate, and of each condition where it is the first to
--- fail; the rank, start, fall and bounds of the samples; and whether the step of an exclusion is whole. Three tables, a line being what is computed and what it has to be;
--- `SampleTheorems` computes them.
+-- fail; the rank, start, fall and bounds of the samples; and whether the step of an exclusion is whole. Three tables, a line being
+-- what is computed and what it has to be; `SampleTheorems` computes them.
 use Prim.Native.Nat.{ℕ}
 use mathlib.Core.Bool.{Bool, true, false}
 use mathlib.Core.List.{List, [], _∷_}
@@ -146,9 +146,9 @@ whole-steps =
 -- opens all that the tables compute with
 unfoldable pub computing : Unit {0}
 unfolding
-    told computed whole-steps step-is-whole all-divided divides rankingTold exclusionTold lassoTold rankingTests exclusionTests weighedTests lassoTests _at-each_unless_ of first
-    tabulate
-    sum dot scale add less rank start fall bound P S1 S7-loop S7 S8 S9-loop S9 half-steps half-step never-below odd-U S10-loop S10 S14-loop S14
-    unlike-loop unlike-ranking
+    told computed rankingTold exclusionTold lassoTold rankingTests exclusionTests weighedTests lassoTests _at-each_unless_ of first
+    tabulate whole-steps step-is-whole all-divided divides
+    sum dot scale add less rank start fall bound P S1 S7-loop S7 S8 S9-loop S9 half-steps half-step never-below odd-U
+    S10-loop S10 S14-loop S14 unlike-loop unlike-ranking
     excluded-loop unlike-exclusion lasso-loop unlike-lasso
 computing = tt
