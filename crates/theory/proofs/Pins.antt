@@ -12,7 +12,7 @@ use Rattle.whole.specs.Sums.{dot, sum, less, add, scale, Each}
 use Rattle.whole.proofs.Solve.{v, _⊕_, _⊝_, _⊗_, solve-le, eq-fact, le-fact}
 use Rattle.theory.specs.Loops.{Loop, over, Step, Run, Endless}
 use Rattle.theory.specs.Rankings.{NonNegative, Ranks, RanksWhole, RanksFractions}
-use Rattle.theory.specs.Exclusions.{OfSize, ExclusionHolds, all-divided, step-is-whole}
+use Rattle.theory.specs.Exclusions.{OfSize, ExclusionHolds, divides, all-divided, step-is-whole}
 use Rattle.theory.specs.Lassos.{stemOf, Invariant, NonNegativeLasso}
 use Rattle.theory.specs.Samples.{row, ranking, P, S1, S7-loop, S7, S9-loop, S9, half-steps, half-step, never-below, odd-U, S10-loop, S10, S14-loop, S14, upward}
 use Rattle.theory.specs.Table.{computing}
@@ -175,16 +175,16 @@ half-steps-ranked-whole r δ0 =
     }
 
 pub by-V-alone-too-wide : ExclusionHolds S9-loop S9 × (all-divided (S9 .q) (S9 .«V») ≡ true) × (step-is-whole S9 ≡ false)
-unfolding computing
+unfolding S9 step-is-whole all-divided divides
 by-V-alone-too-wide = (S9-excluded, refl, refl)
 
 pub by-W-alone-too-wide : ExclusionHolds half-steps half-step × (all-divided (half-step .q) (half-step .W) ≡ true) × (step-is-whole half-step ≡ false)
-unfolding computing Each
+unfolding half-steps half-step Each dot less add scale step-is-whole all-divided divides
 by-W-alone-too-wide = (search, refl, refl)
 
 -- nor narrower: U need not be divided
 pub whole-with-odd-U : (r : List ℤ) (δ0 δ : ℤ) → RanksWhole never-below r δ0 δ → ⊥
-unfolding computing Each
+unfolding never-below odd-U Each dot less add scale step-is-whole all-divided divides
 whole-with-odd-U = exclusion-excludes never-below odd-U (record { U-entries = refl; V-entries = refl; W-entries = refl }) (omega arith) (search) .1 refl
 
 -- ---- what the theorems ask of a certificate's values
