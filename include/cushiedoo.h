@@ -98,7 +98,10 @@ enum {
     CUSHIEDOO_LASSO = 4      /* with start and fall */
 };
 
-/* The grade of an exclusion: over which numbers no linear ranking function exists. */
+/*
+ * The grade of an exclusion: over which numbers no linear ranking function exists. It is whole exactly when q divides
+ * every entry of V and W, and fractions otherwise.
+ */
 enum {
     CUSHIEDOO_NO_GRADE = 0,
     CUSHIEDOO_WHOLE = 1,    /* neither over fractions nor over whole numbers */

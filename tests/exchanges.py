@@ -186,7 +186,7 @@ def judge(loop, certificate):
             before = [w - v for w, v in zip(W, V)]
             each(31, m, lambda i: total(rows[i][0], V) + total(rows[i][1], U) <= 0)
             each(32, m, lambda i: total(rows[i][0], before) + total(rows[i][1], W) <= q * rows[i][2])
-            return ("excluded", "whole" if q == 1 else "fractions")
+            return ("excluded", "whole" if all(z % q == 0 for z in V + W) else "fractions")
         ms = number(certificate, 6, "u16")
         if ms > 64:
             raise Refused(5, 6, 2)

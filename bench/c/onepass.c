@@ -213,6 +213,15 @@ static fault exclusion_fault(const uint8_t *certificate, uint64_t n)
     return none;
 }
 
+/* Whole exactly when q divides every entry of V and W, which stand one after the other; q = 1 needs no division. */
+static uint64_t grade_of(int64_t q, const uint8_t *v, uint64_t n)
+{
+    if (q == 1) return CUSHIEDOO_WHOLE;
+    for (uint64_t j = 0; j < 2 * n; j++)
+        if (i32_at(v + 4 * j) % q != 0) return CUSHIEDOO_FRACTIONS;
+    return CUSHIEDOO_WHOLE;
+}
+
 static void pass_exclusion(found *told, const uint8_t *loop, uint64_t m, const uint8_t *certificate)
 {
     uint64_t n = told->n, width = 4 * n + 4;
@@ -246,7 +255,8 @@ static void pass_exclusion(found *told, const uint8_t *loop, uint64_t m, const u
         told->condition = fault_of(31, left);
     else if (missed < m)
         told->condition = fault_of(32, missed);
-    told->grade = q == 1 ? CUSHIEDOO_WHOLE : CUSHIEDOO_FRACTIONS;
+    else
+        told->grade = grade_of(q, v, n);
 }
 
 /* Where the parts of a lasso stand. */

@@ -325,6 +325,16 @@ fn excluded(exclusion: &Exclusion, rows: &Rows, n: usize) -> Result<(), Fault> {
     })
 }
 
+/// 1, whole, exactly when q divides every entry of V and W (those past n are 0); 2, fractions, otherwise.
+fn grade(exclusion: &Exclusion) -> u64 {
+    let Exclusion { q, v, w, .. } = exclusion;
+    let divided = |entries: &Entries| entries.iter().all(|entry| entry % q == 0);
+    match *q == 1 || divided(v) && divided(w) {
+        true => 1,
+        false => 2,
+    }
+}
+
 impl Lasso {
     fn starts(&self, n: usize) -> Result<(), Fault> {
         let (t, stem) = (&self.t, &self.stem);
@@ -410,7 +420,7 @@ fn judged(looped: &[u8], certificate: &[u8], list: &mut [i64]) -> Result<Verdict
         3 => {
             let exclusion = parse_exclusion(certificate, n).map_err(of_certificate)?;
             excluded(&exclusion, &rows, n).map_err(of_certificate)?;
-            Ok(verdict(3, 0, 0, if exclusion.q == 1 { 1 } else { 2 }))
+            Ok(verdict(3, 0, 0, grade(&exclusion)))
         }
         4 => {
             let mut lasso = Lasso::NONE;

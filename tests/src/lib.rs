@@ -4,13 +4,14 @@
 //! - [`oracle`] is the paper, plainly rendered; it leans on nothing else here.
 //! - [`construct`], [`damage`] and [`cases`] make the inputs from a seed.
 //! - [`compare`] calls the archive, and compares every number told and every entry of every list lent.
-//! - [`tally`] counts what came up ([`right_sides`] those of a case), and says which quotas are not met.
+//! - [`tally`] counts what came up ([`right_sides`] and [`grades`] those of a case), and says which quotas are not met.
 
 pub mod cases;
 pub mod compare;
 pub mod construct;
 pub mod damage;
 pub mod forms;
+pub mod grades;
 pub mod oracle;
 pub mod random;
 pub mod right_sides;

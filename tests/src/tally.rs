@@ -1,11 +1,13 @@
 //! Counts of the cases, and the quotas that a whole run must meet: 30 % accepted; every kind, every refusal number with
 //! each record that it can speak of, and every line of a sheet at least 500 times; every condition that fails at least
 //! 100 times, and 50 times each at its first place, at its last, and together with the next condition; a right side near
-//! each end of its range in a tenth of the cases, and one past it, for b, d and s0, 50 times.
+//! each end of its range in a tenth of the cases, and one past it, for b, d and s0, 50 times; accepted exclusions with q
+//! above 1 of either grade 100 times, and 50 times each way in which they have it.
 
 use crate::cases::Case;
 use crate::compare::{Answer, Lent, Told};
 use crate::construct::places;
+use crate::grades;
 use crate::oracle::judging;
 use crate::oracle::layout::RIGHT;
 use crate::oracle::Refusal;
@@ -14,8 +16,9 @@ use std::collections::BTreeMap;
 
 /// The fewest times that anything must come up.
 const LEAST: u64 = 500;
-/// The fewest times that a failing condition must come up, or something accepted with a right side near an end of its
-/// range; and each way in which a condition fails or a right side is past its end.
+/// The fewest times that a failing condition must come up, something accepted with a right side near an end of its range,
+/// or an exclusion of either grade with q above 1; and each way in which a condition fails, a right side is past its end or
+/// an exclusion has its grade.
 const LEAST_FAILING: u64 = 100;
 const LEAST_WAY: u64 = 50;
 /// The fewest accepted cases in a hundred.
@@ -261,6 +264,9 @@ impl Tally {
         for name in ways_of(case, &answer.told) {
             self.add(call, name);
         }
+        for way in grades::ways_of(case, &answer.told) {
+            self.add(call, way.to_string());
+        }
         for line in lines {
             self.add(call, line);
         }
@@ -328,6 +334,12 @@ impl Tally {
         }
         for (call, name, least) in right_side_quotas() {
             ask(call, name, least);
+        }
+        for name in grades::OFTEN {
+            ask("judge", name.to_string(), LEAST_FAILING);
+        }
+        for name in grades::SELDOM {
+            ask("judge", name.to_string(), LEAST_WAY);
         }
         let mut share = |what: &str, count: u64, all: u64, least: u64| {
             if count * 100 < all * least {

@@ -144,7 +144,8 @@ impl fmt::Display for Refusal {
 
 impl Error for Refusal {}
 
-/// Over which numbers an accepted exclusion shows that no linear ranking function exists.
+/// Over which numbers an accepted exclusion shows that no linear ranking function exists: whole exactly when q divides every
+/// entry of V and W. Its step, from (W - V)/q to W/q, is then one between whole numbers.
 #[derive(Clone, Copy, Debug, PartialEq, Eq, Hash)]
 pub enum Grade {
     /// Neither over fractions nor over whole numbers.

@@ -42,8 +42,29 @@ fn an_exclusion_of_either_grade() {
     let grade = Grade::Whole;
     assert_eq!(whole, Verdict::Accepted(Outcome::Exclusion { grade }));
     assert_eq!(whole.to_string(), "accepted: excluded whole");
-    let fractions = graded(&[2, -4, 2, 8]);
+    assert_eq!(graded(&[2, -4, 2, 8]), whole);
+    let half = record(1, 1, 4, &[2, 0, 1, -2, 0, -1, -1, 1, 0, 1, -1, 0]);
+    let fractions = judge(&half, &record(3, 1, 4, &[2, 0, 0, 1]), &mut []);
+    let grade = Grade::Fractions;
+    assert_eq!(fractions, Verdict::Accepted(Outcome::Exclusion { grade }));
     assert_eq!(fractions.to_string(), "accepted: excluded fractions");
+}
+
+#[test]
+fn an_exclusion_is_whole_exactly_when_q_divides_v_and_w() {
+    let no_rows = record(1, 2, 0, &[]);
+    let graded = |values: &[i64]| {
+        let verdict = judge(&no_rows, &record(3, 2, 0, values), &mut []);
+        match verdict.outcome() {
+            Some(Outcome::Exclusion { grade }) => grade,
+            _ => panic!("{verdict}"),
+        }
+    };
+    let end = 60_000;
+    assert_eq!(graded(&[3, 1, 2, 3, -6, 0, 9]), Grade::Whole); // q does not divide U
+    assert_eq!(graded(&[end, 1, 0, end, -end, -end, end]), Grade::Whole);
+    assert_eq!(graded(&[3, 3, 3, 3, -6, 9, 8]), Grade::Fractions); // the last of W
+    assert_eq!(graded(&[3, 3, 3, 3, -5, 9, 0]), Grade::Fractions); // the last of V
 }
 
 #[test]

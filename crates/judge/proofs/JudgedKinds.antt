@@ -123,9 +123,9 @@ module _ (loopbytes : List ℕ) (n m : ℕ) (l : LoopSound loopbytes n m) (certi
     pub exclusion-refused : (fault .number ≡ 0 → ⊥) → (refusal-of 2 (fault .number) (fault .place) ≡ judges j) × (lent ≡ rank-after j lent)
     exclusion-refused some = fails-so exclusion c no-room (fault .number) (fault .place) (fault-refused fault (conditions p) fault-is some)
 
-    pub exclusion-accepted : fault .number ≡ 0 → (shows (Exclusion (grade-of (littleAt 2 certificate 6))) ≡ judges j) × (lent ≡ rank-after j lent)
-    unfolding claim exclusion-claim exclusion-held
+    pub exclusion-accepted : fault .number ≡ 0 → (shows (Exclusion (grade-of (exclusion-held certificate n))) ≡ judges j) × (lent ≡ rank-after j lent)
+    unfolding claim exclusion-claim
     exclusion-accepted zero =
-        let q-is = exclusion-of loopbytes n m l certificates-judged certificate c in
+        let held = exclusion-of loopbytes n m l certificates-judged certificate c in
         let answers = agreed-so exclusion c no-room (fault-done fault (conditions p) fault-is (conditions-named p) zero) in
-        (rw q-is at (answers .0), answers .1)
+        (rw held at (answers .0), answers .1)

@@ -1,9 +1,11 @@
 -- Sound records hold, by places, the loop and the certificate of crate `verdict`; so what the conditions' code tells of the places it tells of the records.
 use mathlib.Core.Path.{_≡_, refl, ap, _∙_}
-use Prim.Native.Nat.{ℕ}
+use Prim.Native.Nat.{ℕ, _<_}
 use mathlib.Core.Bool.{Bool}
 use mathlib.Core.List.{List}
 use lib.IntN.{ℤ}
+use Rattle.endian.specs.Numbers.{littleAt}
+use Rattle.record.proofs.SoundRecords.{sound-says}
 use Rattle.record.specs.Layouts.{Kind, ranking, exclusion, lasso, is-loop, is-lasso}
 use Rattle.record.specs.Readers.{Reader, counts-read}
 use Rattle.judge_conditions.specs.LoopHeld.{loop-held}
@@ -18,6 +20,8 @@ use Rattle.verdict.specs.Contents.{loop-in, ranking-in, exclusion-in, lasso-in}
 use Rattle.verdict.specs.Pairs as Pairs
 use Rattle.judge.specs.SoundPairs as Pairs-of
 use Rattle.verdict.specs.Pairs.{loop-record, certificate-record, Pair, pair-of, kind-of}
+use Rattle.verdict.proofs.Demands.{scale-positive}
+use Rattle.verdict.proofs.PartsInRange.{exclusion-parts}
 use Rattle.verdict.proofs.ConditionLaws.{conditions-ranking, conditions-exclusion, conditions-lasso}
 use Rattle.judge.specs.SoundPairs.{first-row, LoopSound, CertificateSound, RankedOf}
 use Rattle.judge.proofs.HeldByPlaces.{loop-is, ranking-is, exclusion-is, lasso-is}
@@ -41,6 +45,13 @@ module _ (loopbytes : List ℕ) (n m : ℕ) (l : LoopSound loopbytes n m) where
     pub exclusion-of : CertificateSound wants loopbytes certificate exclusion → exclusion-in record-of ≡ exclusion-held certificate n
     unfolding certificate-record is-loop
     exclusion-of c = exclusion-is record-of (c .kind-is) ∙ ap (exclusion-held certificate) (counts-are loopbytes n m l wants certificate exclusion c refl .0)
+
+    pub q-positive : CertificateSound wants loopbytes certificate exclusion → 0 < littleAt 2 certificate 6
+    unfolding exclusion-held
+    q-positive c =
+        let held = exclusion-of c in
+        let parts = exclusion-parts record-of (sound-says record-of (c .told)) (c .kind-is) in
+        rw held at (scale-positive _ (parts .q-in))
 
     pub lasso-of : (ms : ℕ) → CertificateSound wants loopbytes certificate lasso → ms ≡ counts-read record-of .ms → lasso-in record-of ≡ lasso-held certificate n m ms
     unfolding certificate-record is-loop

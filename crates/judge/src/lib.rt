@@ -3,6 +3,10 @@
 ghost use mathlib.Core.Path.{_≡_};
 ghost use lib.IntN.{ℤ};
 ghost use mathlib.Core.List.{List};
+ghost use lib.ListN.{length};
+ghost use Prim.Native.Nat.{_+_, _*_, _≤_, _<_};
+ghost use Rattle.endian.specs.Numbers.{littleAt};
+ghost use Rattle.judge_exclusion.specs.ExclusionHeld.{exclusion-held};
 ghost use Rattle.record.specs.Layouts.{exclusion, kindOf};
 ghost use Rattle.verdict.specs.Judging.{judges, rank-after, judge-of, certificates-judged};
 ghost use Rattle.verdict.specs.Outcomes.{grade-of};
@@ -106,14 +110,17 @@ fn judge_excluded(loopbytes: &[u8], n: usize, m: usize, certificate: &[u8]) -> V
     if fault.number != 0 {
         return refused(2, fault.number, fault.place);
     }
-    let grade = grade(endian::u16_at(certificate, 6));
-    accepted(Outcome::Exclusion { grade: grade })
+    accepted(Outcome::Exclusion {
+        grade: grade(certificate, n),
+    })
 }
 
-fn grade(q: usize) -> Grade
-    ensures { λ r. ⌜ r ≡ grade-of q ⌝ }
+// Whole where q divides every entry of W and of V.
+fn grade(certificate: &[u8], n: usize) -> Grade
+    requires { ⌜ (8 + 12 * n ≤ length (now certificate)) × (n ≤ 16) × (0 < littleAt 2 (now certificate) 6) ⌝ }
+    ensures { λ r. ⌜ r ≡ grade-of (exclusion-held (now (certificate .entry)) n) ⌝ }
 {
-    if q == 1 {
+    if judge_grade::whole_step(certificate, n) {
         Grade::Whole
     } else {
         Grade::Fractions

@@ -8,7 +8,7 @@ use lib.ListN.{length, drop}
 use Rattle.record.specs.Contents.{rows-values, row-values, ranking-values, exclusion-values}
 use Rattle.record.specs.Samples as Records
 use Rattle.decimal.specs.Decimals.{decimal}
-use Rattle.verdict.specs.Samples.{P, ends-without-rank, with-stem, S1, S7, S8, S10, S11, second-of-P, loop-bytes, ranking-bytes, exclusion-bytes}
+use Rattle.verdict.specs.Samples.{P, ends-without-rank, halves, with-stem, S1, S7, S8, S9, S10, S11, second-of-P, loop-bytes, ranking-bytes, exclusion-bytes}
 use Rattle.sheet_lines.specs.Words.{bytes, line}
 use Rattle.record_parting.specs.Parting.{first-record, after-first, records}
 use Rattle.sheet_text.specs.Sheets.{variables-in, rows-in, certificate-line, sheet-text}
@@ -24,10 +24,11 @@ sample-text = (refl, refl)
 
 -- a lasso and exclusions of both grades
 pub other-lines :
-    (sheet-text (ends-without-rank ++ (S7 ++ S8)) ≡ bytes "loop 1 3\n1 excluded whole\n2 excluded fractions\n")
+    (sheet-text (ends-without-rank ++ (S7 ++ S8)) ≡ bytes "loop 1 3\n1 excluded whole\n2 excluded whole\n")
+    × (sheet-text (halves ++ S9) ≡ bytes "loop 1 4\n1 excluded fractions\n")
     × (sheet-text (with-stem ++ (S10 ++ S11)) ≡ bytes "loop 2 3\n1 lasso 1 0 from 0 down 1\n2 excluded whole\n")
-unfolding computing ends-without-rank with-stem S7 S8 S10 S11 Records.S7 Records.S10 loop-bytes rows-values row-values exclusion-bytes exclusion-values
-other-lines = (refl, refl)
+unfolding computing ends-without-rank halves with-stem S7 S8 S9 S10 S11 Records.S7 Records.S10 loop-bytes rows-values row-values exclusion-bytes exclusion-values
+other-lines = (refl, refl, refl)
 
 -- no input, no certificate, a certificate of one byte, an L below 2 that takes all the rest, an L of 65,550 (of which the lower two bytes are S1's) that does
 -- too, and a loop that is refused before a certificate

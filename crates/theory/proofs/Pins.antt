@@ -1,6 +1,7 @@
 -- Definitions that the theorems use only before an arrow or under a negation are pinned here: something is in each of them, and something is not. A
 -- set of steps, runs or ranking functions that is made smaller (or larger) than 01 says then no longer passes, though every theorem about it still might.
 use Prim.Native.Nat.{ℕ, zero, suc, _≤_}
+use mathlib.Core.Bool.{true, false}
 use mathlib.Core.Path.{_≡_, refl}
 use mathlib.Core.List.{List, [], _∷_}
 use native.Mathlib.Omega.{arith}
@@ -11,9 +12,9 @@ use Rattle.whole.specs.Sums.{dot, sum, less, add, scale, Each}
 use Rattle.whole.proofs.Solve.{v, _⊕_, _⊝_, _⊗_, solve-le, eq-fact, le-fact}
 use Rattle.theory.specs.Loops.{Loop, over, Step, Run, Endless}
 use Rattle.theory.specs.Rankings.{NonNegative, Ranks, RanksWhole, RanksFractions}
-use Rattle.theory.specs.Exclusions.{OfSize, ExclusionHolds}
+use Rattle.theory.specs.Exclusions.{OfSize, ExclusionHolds, divides, all-divided, step-is-whole}
 use Rattle.theory.specs.Lassos.{stemOf, Invariant, NonNegativeLasso}
-use Rattle.theory.specs.Samples.{row, ranking, excluding, P, S1, S7-loop, S7, S9-loop, S10-loop, S10, S14-loop, S14, upward}
+use Rattle.theory.specs.Samples.{row, ranking, P, S1, S7-loop, S7, S9-loop, S9, half-steps, half-step, never-below, odd-U, S10-loop, S10, S14-loop, S14, upward}
 use Rattle.theory.specs.Table.{computing}
 use Rattle.theory.specs.Weights.{PutIn, none, old, new}
 use Rattle.theory.proofs.Decisions.{lasso-decided}
@@ -139,13 +140,52 @@ unfolding S9-loop
 S9-ranked-whole r δ0 =
     record { entries = refl; positive = leZ-yes tt; bounded = λ X X′ t. absurd (S9-no-whole-step X X′ t); falls = λ X X′ t. absurd (S9-no-whole-step X X′ t) }
 
-S9-excluded : ExclusionHolds S9-loop (excluding 2 (pos 0) (pos 0) (pos 1))
-unfolding S9-loop Each dot less add scale
+S9-excluded : ExclusionHolds S9-loop S9
+unfolding S9-loop S9 Each dot less add scale
 S9-excluded = search
 
 pub S9-not-ranked : (r : List ℤ) (δ0 δ : ℤ) → RanksFractions S9-loop r δ0 δ → ⊥
-unfolding S9-loop
-S9-not-ranked = exclusion-excludes S9-loop (excluding 2 (pos 0) (pos 0) (pos 1)) (record { U-entries = refl; V-entries = refl; W-entries = refl }) (omega arith) S9-excluded .0
+unfolding S9-loop S9
+S9-not-ranked = exclusion-excludes S9-loop S9 (record { U-entries = refl; V-entries = refl; W-entries = refl }) (omega arith) S9-excluded .0
+
+-- ---- the whole grade's rule is no wider than it may be: where q divides V and not W (S9, above), and where it divides W and not V (`half-step`),
+-- an exclusion holds of a loop that every r ranks over whole numbers
+
+half-steps-no-whole-step : (x x′ : List ℤ) → Step half-steps 1 x x′ → ⊥
+unfolding half-steps Each
+half-steps-no-whole-step x x′ t =
+    plain (only x) (only x′) (rw (dot-only (negsuc 1) x, dot-only (pos 2) x′) at (t .meets .0)) (rw (dot-only (pos 2) x, dot-only (negsuc 1) x′) at (t .meets .1 .0))
+  where
+    plain : (a c : ℤ) → (negsuc 1 *ℤ a +ℤ pos 2 *ℤ c) ≤ℤ (pos 1 *ℤ negsuc 0) → (pos 2 *ℤ a +ℤ negsuc 1 *ℤ c) ≤ℤ (pos 1 *ℤ pos 1) → ⊥
+    plain a c h k =
+        omega (
+          arith,
+          le-fact (v (negsuc 1) ⊗ v a ⊕ v (pos 2) ⊗ v c) (v (pos 1) ⊗ v (negsuc 0)) h,
+          le-fact (v (pos 2) ⊗ v a ⊕ v (negsuc 1) ⊗ v c) (v (pos 1) ⊗ v (pos 1)) k,
+        )
+
+pub half-steps-ranked-whole : (r δ0 : ℤ) → RanksWhole half-steps (r ∷ []) δ0 (pos 1)
+unfolding half-steps
+half-steps-ranked-whole r δ0 =
+    record {
+      entries = refl;
+      positive = leZ-yes tt;
+      bounded = λ X X′ t. absurd (half-steps-no-whole-step X X′ t);
+      falls = λ X X′ t. absurd (half-steps-no-whole-step X X′ t);
+    }
+
+pub by-V-alone-too-wide : ExclusionHolds S9-loop S9 × (all-divided (S9 .q) (S9 .«V») ≡ true) × (step-is-whole S9 ≡ false)
+unfolding S9 step-is-whole all-divided divides
+by-V-alone-too-wide = (S9-excluded, refl, refl)
+
+pub by-W-alone-too-wide : ExclusionHolds half-steps half-step × (all-divided (half-step .q) (half-step .W) ≡ true) × (step-is-whole half-step ≡ false)
+unfolding half-steps half-step Each dot less add scale step-is-whole all-divided divides
+by-W-alone-too-wide = (search, refl, refl)
+
+-- nor narrower: U need not be divided
+pub whole-with-odd-U : (r : List ℤ) (δ0 δ : ℤ) → RanksWhole never-below r δ0 δ → ⊥
+unfolding never-below odd-U Each dot less add scale step-is-whole all-divided divides
+whole-with-odd-U = exclusion-excludes never-below odd-U (record { U-entries = refl; V-entries = refl; W-entries = refl }) (omega arith) (search) .1 refl
 
 -- ---- what the theorems ask of a certificate's values
 

@@ -17,7 +17,7 @@ use Rattle.theory.specs.Loops.{Step, Run}
 use Rattle.theory.specs.Rankings.{rank, start, fall, bound}
 use Rattle.theory.specs.Exclusions.{ExclusionHolds}
 use Rattle.theory.specs.Samples.{S7-loop, S7, S9-loop, S14-loop, S14}
-use Rattle.theory.specs.Table.{told, computed, computing}
+use Rattle.theory.specs.Table.{told, computed, whole-steps, computing}
 
 -- the only variable
 abbrev pub only : List ℤ → ℤ
@@ -157,3 +157,7 @@ samples-told = refl
 pub samples-computed : map (λ line. line .0) computed ≡ map (λ line. line .1) computed
 unfolding computing
 samples-computed = refl
+
+pub whole-steps-told : map (λ line. line .0) whole-steps ≡ map (λ line. line .1) whole-steps
+unfolding computing
+whole-steps-told = refl

@@ -42,6 +42,10 @@ excluding q U one-V W = record { q = q; U = U ∷ []; «V» = one-V ∷ []; W = 
 unfoldable pub S7 : Exclusion
 S7 = excluding 1 (negsuc 1) (pos 1) (pos 4)
 
+-- S8: the same step with q 2
+unfoldable pub S8 : Exclusion
+S8 = excluding 2 (negsuc 3) (pos 2) (pos 8)
+
 -- S9: 2x <= 1; -2x <= -1; x′ - x <= 0; x - x′ <= 0
 unfoldable pub S9-loop : Loop
 S9-loop =
@@ -50,6 +54,23 @@ S9-loop =
     row (negsuc 1 ∷ []) (pos 0 ∷ []) (negsuc 0) ∷
     row (negsuc 0 ∷ []) (pos 1 ∷ []) (pos 0) ∷
     row (pos 1 ∷ []) (negsuc 0 ∷ []) (pos 0) ∷ [])
+
+unfoldable pub S9 : Exclusion
+S9 = excluding 2 (pos 0) (pos 0) (pos 1)
+
+-- -2x + 2x′ <= -1; 2x - 2x′ <= 1, that is x′ = x - 1/2, and q 2, U -1, V -1, W 0
+unfoldable pub half-steps : Loop
+half-steps = over 1 (row (negsuc 1 ∷ []) (pos 2 ∷ []) (negsuc 0) ∷ row (pos 2 ∷ []) (negsuc 1 ∷ []) (pos 1) ∷ [])
+
+unfoldable pub half-step : Exclusion
+half-step = excluding 2 (negsuc 0) (negsuc 0) (pos 0)
+
+-- -x <= 0, and q 2, U 1, V 2, W 2: q divides V and W and not U
+unfoldable pub never-below : Loop
+never-below = over 1 (row (negsuc 0 ∷ []) (pos 0 ∷ []) (pos 0) ∷ [])
+
+unfoldable pub odd-U : Exclusion
+odd-U = excluding 2 (pos 1) (pos 2) (pos 2)
 
 -- S10: a lasso over (x, y), stem -y′ <= -1, loop -x <= 0; -x + y + x′ <= 0; y - y′ <= 0
 unfoldable pub S10-loop : Loop

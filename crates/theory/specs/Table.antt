@@ -1,7 +1,8 @@
 -- What the conditions tell of the samples of 01, of the sheet's second certificate, and of each condition where it is the first to
--- fail; and the rank, start, fall and bounds of the samples. Two tables, a line being what is computed and what it has to be;
--- `SampleTheorems` computes them.
+-- fail; the rank, start, fall and bounds of the samples; and whether the step of an exclusion is whole. Three tables, a line being
+-- what is computed and what it has to be; `SampleTheorems` computes them.
 use Prim.Native.Nat.{ℕ}
+use mathlib.Core.Bool.{Bool, true, false}
 use mathlib.Core.List.{List, [], _∷_}
 use lib.IntN.{ℤ, pos, negsuc}
 use Rattle.refusal.specs.Tests.{Told, done, refused, first}
@@ -9,12 +10,13 @@ use Rattle.whole.specs.Rows.{Row}
 use Rattle.whole.specs.Sums.{dot, sum, tabulate, scale, add, less}
 use Rattle.theory.specs.Loops.{Loop, over}
 use Rattle.theory.specs.Rankings.{Ranking, rank, start, fall, bound}
+use Rattle.theory.specs.Exclusions.{Exclusion, divides, all-divided, step-is-whole}
 use Rattle.theory.specs.Lassos.{longer}
 use Rattle.theory.specs.Conditions.{rankingTold, exclusionTold, lassoTold, rankingTests, exclusionTests, lassoTests}
 use Rattle.theory.specs.Conditions.{weighedTests, _at-each_unless_, of}
-use Rattle.theory.specs.Samples.{row, ranking, excluding, lasso, P, S1, S7-loop, S7, S9-loop, S10-loop, S10-stem, S10-ranking}
+use Rattle.theory.specs.Samples.{row, ranking, excluding, lasso, P, S1, S7-loop, S7, S8, S9-loop, S9, S10-loop, S10-stem, S10-ranking}
 use Rattle.theory.specs.Samples.{S10, S14-loop, S14, unlike-loop, unlike-ranking, excluded-loop, unlike-exclusion, lasso-loop}
-use Rattle.theory.specs.Samples.{unlike-lasso}
+use Rattle.theory.specs.Samples.{unlike-lasso, half-steps, half-step, never-below, odd-U}
 
 -- S10's stem, but that its row speaks of the state before the step too
 abbrev stem-from-x : List Row
@@ -42,8 +44,8 @@ told =
     (rankingTold S14-loop S14, done) ∷
     -- S7, S8, S9; then either condition in another row, all rows of the direction first
     (exclusionTold S7-loop S7, done) ∷
-    (exclusionTold S7-loop (excluding 2 (negsuc 3) (pos 2) (pos 8)), done) ∷
-    (exclusionTold S9-loop (excluding 2 (pos 0) (pos 0) (pos 1)), done) ∷
+    (exclusionTold S7-loop S8, done) ∷
+    (exclusionTold S9-loop S9, done) ∷
     (exclusionTold S9-loop (excluding 1 (pos 0) (pos 0) (pos 1)), refused 32 0) ∷
     (exclusionTold S7-loop (excluding 1 (pos 2) (negsuc 0) (negsuc 0)), refused 31 0) ∷
     (exclusionTold S7-loop (excluding 1 (negsuc 0) (pos 1) (pos 4)), refused 31 1) ∷
@@ -73,6 +75,8 @@ told =
     -- no two numbers of one form alike
     (rankingTold unlike-loop unlike-ranking, done) ∷
     (exclusionTold excluded-loop unlike-exclusion, done) ∷
+    (exclusionTold half-steps half-step, done) ∷
+    (exclusionTold never-below odd-U, done) ∷
     (lassoTold lasso-loop unlike-lasso, done) ∷
     []
 
@@ -113,11 +117,38 @@ computed =
     ) ∷
     []
 
+-- an exclusion by q, V and W alone
+abbrev shown : ℕ → List ℤ → List ℤ → Exclusion
+shown q three-V W = record { q = q; U = pos 1 ∷ pos 1 ∷ pos 1 ∷ []; «V» = three-V; W = W }
+
+-- whether the step shown is one between whole numbers
+unfoldable pub whole-steps : List (Bool × Bool)
+whole-steps =
+    (step-is-whole S7, true) ∷
+    (step-is-whole S8, true) ∷
+    (step-is-whole S9, false) ∷
+    (step-is-whole half-step, false) ∷
+    (step-is-whole odd-U, true) ∷
+    (step-is-whole unlike-exclusion, true) ∷
+    -- q divides all; all but the last of W; all but the last of V; all but the first of either
+    (step-is-whole (shown 3 (pos 3 ∷ negsuc 5 ∷ pos 0 ∷ []) (negsuc 2 ∷ pos 0 ∷ pos 9 ∷ [])), true) ∷
+    (step-is-whole (shown 3 (pos 3 ∷ negsuc 5 ∷ pos 0 ∷ []) (negsuc 2 ∷ pos 0 ∷ pos 10 ∷ [])), false) ∷
+    (step-is-whole (shown 3 (pos 3 ∷ negsuc 5 ∷ negsuc 0 ∷ []) (negsuc 2 ∷ pos 0 ∷ pos 9 ∷ [])), false) ∷
+    (step-is-whole (shown 3 (pos 4 ∷ negsuc 5 ∷ pos 0 ∷ []) (negsuc 2 ∷ pos 0 ∷ pos 9 ∷ [])), false) ∷
+    (step-is-whole (shown 3 (pos 3 ∷ negsuc 5 ∷ pos 0 ∷ []) (negsuc 3 ∷ pos 0 ∷ pos 9 ∷ [])), false) ∷
+    -- q = 1 divides all; the largest q divides 0 and itself, of either sign, and nothing between
+    (step-is-whole (shown 1 (pos 1 ∷ negsuc 59998 ∷ pos 0 ∷ []) (pos 59999 ∷ negsuc 0 ∷ pos 7 ∷ [])), true) ∷
+    (step-is-whole (shown 60000 (pos 60000 ∷ negsuc 59999 ∷ pos 0 ∷ []) (negsuc 59999 ∷ pos 0 ∷ pos 60000 ∷ [])), true) ∷
+    (step-is-whole (shown 60000 (pos 60000 ∷ negsuc 59998 ∷ pos 0 ∷ []) (negsuc 59999 ∷ pos 0 ∷ pos 60000 ∷ [])), false) ∷
+    (step-is-whole (shown 60000 (pos 60000 ∷ negsuc 59999 ∷ pos 0 ∷ []) (negsuc 59999 ∷ pos 30000 ∷ pos 60000 ∷ [])), false) ∷
+    []
+
 -- opens all that the tables compute with
 unfoldable pub computing : Unit {0}
 unfolding
     told computed rankingTold exclusionTold lassoTold rankingTests exclusionTests weighedTests lassoTests _at-each_unless_ of first
-    tabulate
-    sum dot scale add less rank start fall bound P S1 S7-loop S7 S9-loop S10-loop S10 S14-loop S14 unlike-loop unlike-ranking
+    tabulate whole-steps step-is-whole all-divided divides
+    sum dot scale add less rank start fall bound P S1 S7-loop S7 S8 S9-loop S9 half-steps half-step never-below odd-U
+    S10-loop S10 S14-loop S14 unlike-loop unlike-ranking
     excluded-loop unlike-exclusion lasso-loop unlike-lasso
 computing = tt

@@ -161,6 +161,6 @@ lasso-answers j lent e h =
     record { verdict-is = a .0; list-is = rw length-tabulate at (a .1) }
 
 pub exclusion-answers : (j : Judging) (lent : List ℤ) → kind-of (j .records) ≡ exclusion → judges j .number ≡ 0
-    → (judges j ≡ shows (Exclusion (grade-of (exclusion-in (j .records .certificate-is) .q)))) × (rank-after j lent ≡ lent)
+    → (judges j ≡ shows (Exclusion (grade-of (exclusion-in (j .records .certificate-is))))) × (rank-after j lent ≡ lent)
 unfolding claim exclusion-claim
 exclusion-answers j lent e h = claim-answers j lent exclusion e h

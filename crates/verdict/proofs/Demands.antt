@@ -5,10 +5,8 @@ use Prim.Native.Nat.{ℕ, _≤_}
 use mathlib.Core.Bool.{Bool, true, false}
 use mathlib.Core.List.{List}
 use native.Mathlib.Omega.{arith}
-use lib.Dec.{eqb}
 use lib.IntN.{ℤ, pos}
 use lib.ListN.{length}
-use borrow.Author.Tests.{eqb-true}
 use Rattle.whole.specs.Sums.{Each, NonNeg}
 use Rattle.whole.proofs.EachLaws.{each-then}
 use Rattle.whole.proofs.Solve.{v, le-fact}
@@ -47,7 +45,7 @@ unfolding multipliers _to_
 nonneg-all zs h = each-then (In multipliers) NonNeg zs (λ z in-range. in-range .least) h
 
 -- a scale is at least 1
-scale-positive : (k : ℕ) → In scales (pos k) → 1 ≤ k
+pub scale-positive : (k : ℕ) → In scales (pos k) → 1 ≤ k
 unfolding scales _to_
 scale-positive k h = omega (arith, le-fact (v (pos 1)) (v (pos k)) (h .least))
 
@@ -60,16 +58,16 @@ pub same-counts : (l c : List ℕ) → Sound (certificate-record certificates-ju
 unfolding certificate-record
 same-counts l c s = arguments-read (certificate-record certificates-judged (loop-record l) c) (wanted-no-loop _ _ (s .wanted))
 
--- the grade is whole exactly at q = 1
-whole-grade : (q : ℕ) → grade-of q ≡ Whole → q ≡ 1
+-- the grade is whole only where the step is
+whole-grade : (c : Exclusions.Exclusion) → grade-of c ≡ Whole → Exclusions.step-is-whole c ≡ true
 unfolding grade-of
-whole-grade q h = by-test (eqb q 1) refl
+whole-grade c h = by-test (Exclusions.step-is-whole c) refl
   where
     other-grade : Fractions ≡ Whole → ⊥
     other-grade e = let z : _≡_ {A = ℕ} 0 1 = cc in omega arith
 
-    by-test : (t : Bool) → eqb q 1 ≡ t → q ≡ 1
-    by-test true e = eqb-true q 1 e
+    by-test : (t : Bool) → Exclusions.step-is-whole c ≡ t → Exclusions.step-is-whole c ≡ true
+    by-test true e = e
     by-test false e = absurd (other-grade (rw e at h))
 
 -- what the theory asks of an exclusion
@@ -137,7 +135,7 @@ module _ (l c : List ℕ) (lent : List ℤ) where
   -- an accepted exclusion: no linear ranking function over fractions, nor over whole numbers if its grade is whole
   pub exclusion-rules-out : kind-of (j .records) ≡ exclusion → judges j .number ≡ 0
       → ((r : List ℤ) (δ0 δ : ℤ) → Rankings.RanksFractions (loop-in (j .records .loop-is)) r δ0 δ → ⊥)
-      × (grade-of (exclusion-in (j .records .certificate-is) .q) ≡ Whole → (r : List ℤ) (δ0 δ : ℤ) → Rankings.RanksWhole (loop-in (j .records .loop-is)) r δ0 δ → ⊥)
+      × (grade-of (exclusion-in (j .records .certificate-is)) ≡ Whole → (r : List ℤ) (δ0 δ : ℤ) → Rankings.RanksWhole (loop-in (j .records .loop-is)) r δ0 δ → ⊥)
   exclusion-rules-out e h =
       let f = exclusion-facts e h in
       let out = exclusion-excludes _ _ (f .size) (f .positive) (f .holds) in

@@ -9,6 +9,7 @@ pub mod OutcomeNumbers
 pub mod PartsInRange
 pub mod RefusedCalls
 pub mod SampleSheet
+pub mod GradeEdges
 pub mod StageLaws
 pub mod MagnitudesCounted
 pub mod SmallSums

@@ -54,7 +54,7 @@ sheet =
     ∷ bounded-at P S1 (pos 3 ∷ pos 1 ∷ []) (record { verdict = shows (Ranking (pos 2) (pos 1)); bound = 1 })
     ∷ bounded-at P S1 (pos 2 ∷ pos 1 ∷ []) (record { verdict = shows (Ranking (pos 2) (pos 1)); bound = 0 })
     ∷ judged ends-without-rank S7 2 (shows (Exclusion Whole)) (pos 77 ∷ pos 77 ∷ [])
-    ∷ judged ends-without-rank S8 2 (shows (Exclusion Fractions)) (pos 77 ∷ pos 77 ∷ [])
+    ∷ judged ends-without-rank S8 2 (shows (Exclusion Whole)) (pos 77 ∷ pos 77 ∷ [])
     ∷ judged halves S9 2 (shows (Exclusion Fractions)) (pos 77 ∷ pos 77 ∷ [])
     ∷ judged with-stem S10 3 (shows (Lasso (pos 0) (pos 1))) (pos 1 ∷ pos 0 ∷ pos 77 ∷ [])
     ∷ bounded-at with-stem S10 (pos 5 ∷ pos 1 ∷ []) (record { verdict = shows (Lasso (pos 0) (pos 1)); bound = 6 })

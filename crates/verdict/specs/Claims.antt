@@ -41,7 +41,7 @@ ranking-claim l c =
 -- a grade
 unfoldable pub exclusion-claim : Loop → Exclusions.Exclusion → Claim
 exclusion-claim l c =
-    record { told = exclusionTold l c; outcome = Exclusion (grade-of (c .q)); rank = []; speaks-of = λ x. true; bound = λ x. 0 }
+    record { told = exclusionTold l c; outcome = Exclusion (grade-of c); rank = []; speaks-of = λ x. true; bound = λ x. 0 }
 
 -- a ranking of the loop with the added row, for the states that meet the invariant s·x + s0 >= 0
 unfoldable pub lasso-claim : Loop → Lassos.Lasso → Claim

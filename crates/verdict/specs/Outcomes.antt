@@ -1,8 +1,8 @@
 -- 01's numbers and values for each case of an outcome and of a grade. Whoever tells an outcome in numbers goes by this definition.
 use Prim.Native.Nat.{ℕ}
 use mathlib.Core.Bool.{cond}
-use lib.Dec.{eqb}
 use lib.IntN.{ℤ, pos}
+use Rattle.theory.specs.Exclusions as Exclusions
 use Rattle.verdict.specs.declared.Grade.{Grade}
 use Rattle.verdict.specs.declared.Grade.the-variants.{Whole, Fractions}
 use Rattle.verdict.specs.declared.Outcome.{Outcome}
@@ -26,6 +26,6 @@ numbers (Ranking start fall) = record { kind = 2; start = start; fall = fall; gr
 numbers (Exclusion grade) = record { kind = 3; start = pos 0; fall = pos 0; grade = grade-number grade }
 numbers (Lasso start fall) = record { kind = 4; start = start; fall = fall; grade = 0 }
 
--- "The answer's grade is "whole" if q = 1 and "fractions" otherwise."
-unfoldable pub grade-of : ℕ → Grade
-grade-of q = cond (eqb q 1) Whole Fractions
+-- 02, Q-7: "The grade is "whole" exactly when q divides every entry of W and of V."
+unfoldable pub grade-of : Exclusions.Exclusion → Grade
+grade-of c = cond (Exclusions.step-is-whole c) Whole Fractions

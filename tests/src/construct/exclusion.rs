@@ -4,7 +4,7 @@ use super::{near_an_end, no_step, opposite, Built, Pivots, Style};
 use crate::forms::Pair;
 use crate::oracle::conditions::{dot, Exclusion, Row};
 use crate::oracle::judging::Certificate;
-use crate::oracle::layout::{ENTRY, RIGHT};
+use crate::oracle::layout::{DIRECTION, ENTRY, RIGHT};
 use crate::random::Random;
 
 pub(super) fn ceiling(value: i128, divisor: i128) -> i64 {
@@ -44,6 +44,42 @@ fn flatten(row: &mut Row, exclusion: &Exclusion) {
     }
 }
 
+/// An entry that q divides: 0, or one of either sign, up to the ends of the range.
+fn multiple(random: &mut Random, q: i64) -> i64 {
+    let most = DIRECTION.high / q;
+    let size = random.pick(&[0, 1, most.min(3), most]);
+    q * random.signed(size)
+}
+
+/// Moves an entry, mostly the last, off the multiples of q, often by one.
+fn miss(random: &mut Random, q: i64, entries: &mut [i64]) {
+    let place = match random.one_in(3) {
+        true => random.below(entries.len()),
+        false => entries.len() - 1,
+    };
+    let by = match random.one_in(2) {
+        true => 1,
+        false => random.between(1, q - 1),
+    };
+    // towards 0, so that the entry stays in its range
+    entries[place] += if entries[place] > 0 { -by } else { by };
+}
+
+/// Sets V and W to multiples of q, which is above 1, and mostly lets one of the two, or both, miss it.
+fn grade(random: &mut Random, exclusion: &mut Exclusion) {
+    let Exclusion { q, v, w, .. } = exclusion;
+    for entry in v.iter_mut().chain(w.iter_mut()) {
+        *entry = multiple(random, *q);
+    }
+    let missed = random.below(8);
+    if [0, 1, 2].contains(&missed) {
+        miss(random, *q, v);
+    }
+    if [2, 3, 4].contains(&missed) {
+        miss(random, *q, w);
+    }
+}
+
 /// A loop with an accepted exclusion.
 pub fn exclusion(random: &mut Random, n: usize, m: usize, style: Style) -> Built {
     let size = random.pick(&[0, 1, 9, style.entry.min(60_000), 60_000]);
@@ -54,7 +90,10 @@ pub fn exclusion(random: &mut Random, n: usize, m: usize, style: Style) -> Built
     };
     let mut list = || -> Vec<i64> { (0..n).map(|_| random.signed(size)).collect() };
     let (u, v, w) = (list(), list(), list());
-    let exclusion = Exclusion { q, u, v, w };
+    let mut exclusion = Exclusion { q, u, v, w };
+    if q > 1 && !random.one_in(3) {
+        grade(random, &mut exclusion);
+    }
     let mut rows = style.rows(random, n, m);
     for row in &mut rows {
         allow(row, &exclusion, style.mirrored && random.one_in(2));

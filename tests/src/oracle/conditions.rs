@@ -153,6 +153,16 @@ impl Exclusion {
     pub fn judged(&self, rows: &[Row]) -> Result<(), Refusal> {
         first_of(self.failing(rows))
     }
+
+    /// Whether q divides every entry of a list. 0 is divisible by every q.
+    pub fn divides(&self, entries: &[i64]) -> bool {
+        entries.iter().all(|entry| entry % self.q == 0)
+    }
+
+    /// Whole exactly when q divides every entry of W and of V; U does not matter.
+    pub fn whole(&self) -> bool {
+        self.divides(&self.w) && self.divides(&self.v)
+    }
 }
 
 impl Lasso {

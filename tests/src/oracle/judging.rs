@@ -146,7 +146,7 @@ fn ranked(kind: Kind, rank: &Rank) -> Verdict {
 fn excluded(exclusion: &Exclusion) -> Verdict {
     Verdict {
         outcome: Kind::Exclusion.number(),
-        grade: if exclusion.q == 1 { 1 } else { 2 },
+        grade: if exclusion.whole() { 1 } else { 2 },
         ..Verdict::default()
     }
 }
@@ -186,6 +186,14 @@ pub fn failing(
         Certificate::Lasso(lasso) => lasso.failing(n, &rows),
     };
     Some((n, rows.len(), failing))
+}
+
+/// The exclusion of two records that are sound; none if they are not, or if the certificate is of another kind.
+pub fn exclusion_of(loop_bytes: &[u8], certificate_bytes: &[u8]) -> Option<Exclusion> {
+    match both(loop_bytes, certificate_bytes, &[Kind::Exclusion]) {
+        Ok((_, _, Certificate::Exclusion(exclusion))) => Some(exclusion),
+        _ => None,
+    }
 }
 
 /// The loop record, then the certificate, then 7 (kinds 2 and 4 only), then the conditions.

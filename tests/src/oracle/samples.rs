@@ -69,10 +69,37 @@ fn s7_to_s9_exclusions() {
     let s7 = record(3, 1, 3, &[1, -2, 1, 4]);
     assert_eq!(judge(&falling, &s7, &mut []), excluded(1));
     let s8 = record(3, 1, 3, &[2, -4, 2, 8]);
-    assert_eq!(judge(&falling, &s8, &mut []), excluded(2));
+    assert_eq!(judge(&falling, &s8, &mut []), excluded(1));
     let half = record(1, 1, 4, &[2, 0, 1, -2, 0, -1, -1, 1, 0, 1, -1, 0]);
     let s9 = record(3, 1, 4, &[2, 0, 0, 1]);
     assert_eq!(judge(&half, &s9, &mut []), excluded(2));
+}
+
+#[test]
+fn an_exclusion_is_whole_where_q_divides_all_of_v_and_w() {
+    let no_rows = record(1, 2, 0, &[]);
+    let graded = |q: i64, u: [i64; 2], v: [i64; 2], w: [i64; 2]| {
+        let values = [&[q], &u[..], &v, &w].concat();
+        let verdict = judge(&no_rows, &record(3, 2, 0, &values), &mut []);
+        assert_eq!(verdict, excluded(verdict.grade));
+        verdict.grade
+    };
+    assert_eq!(graded(3, [1, 2], [3, -6], [0, 9]), 1); // U does not matter
+    assert_eq!(graded(3, [3, 3], [3, -6], [9, 8]), 2); // all but the last of W
+    assert_eq!(graded(3, [3, 3], [3, -5], [9, 0]), 2); // all but the last of V
+    assert_eq!(graded(3, [3, 3], [3, -6], [-8, 9]), 2);
+    assert_eq!(graded(3, [3, 3], [-1, 0], [0, 0]), 2);
+    assert_eq!(graded(60_000, [1, 1], [0, 0], [0, 0]), 1);
+    assert_eq!(graded(1, [7, 7], [-5, 3], [11, -1]), 1);
+    let end = 60_000;
+    assert_eq!(graded(end, [1, 0], [end, -end], [-end, end]), 1);
+    assert_eq!(graded(end, [0, 0], [end, -end], [-end, end - 1]), 2);
+    assert_eq!(graded(end, [0, 0], [end, 1 - end], [-end, end]), 2);
+
+    // -2x + 2x' <= -1; 2x - 2x' <= 1: the step from 1/2 to 0, where q divides W and not V
+    let by_half = record(1, 1, 2, &[-2, 2, -1, 2, -2, 1]);
+    let half_down = record(3, 1, 2, &[2, -1, -1, 0]);
+    assert_eq!(judge(&by_half, &half_down, &mut []), excluded(2));
 }
 
 #[test]

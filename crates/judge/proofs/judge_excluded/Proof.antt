@@ -3,6 +3,7 @@ use mathlib.Core.Path.{_∙_}
 use native.Mathlib.Omega.{arith}
 use Rattle.verdict.specs.Judging.{certificates-judged}
 use Rattle.judge.proofs.JudgedKinds.{exclusion-refused, exclusion-accepted}
+use Rattle.judge.proofs.SoundContents.{q-positive}
 use Rattle.judge.proofs.SoundSizes.{n-few, rows-in, exclusion-long}
 use borrow.Author.Needs.{needs}
 use Rattle.judge.proofs.judge_excluded.Statement.{statement}
@@ -29,13 +30,12 @@ returns c =
     in
     (c .refused .ensures ∙ told .0, told .1)
 
-u16-at-requires : tie.Need-u16-at-requires
-u16-at-requires c κs =
-    let s = c .before .before .before .before .before in
-    omega (arith, exclusion-long _ _ _ (s .pre .0) certificates-judged _ (s .pre .1))
-
 grade-requires : tie.Need-grade-requires
-grade-requires c κs = search needs
+grade-requires c κs =
+    let s = c .before .before .before .before .before in
+    let l = s .pre .0 in
+    let sound = s .pre .1 in
+    (exclusion-long _ _ _ l certificates-judged _ sound, n-few _ _ _ l, q-positive _ _ _ l certificates-judged _ sound)
 
 accepted-requires : tie.Need-accepted-requires
 accepted-requires c κs = search needs
@@ -43,8 +43,7 @@ accepted-requires c κs = search needs
 returns-2 : tie.Need-returns-2
 returns-2 c =
     let graded = c .before in
-    let read = graded .before .u16-at in
-    let passed = graded .before .before in
+    let passed = graded .before in
     let called = passed .before .before in
     let s = called .before .before .before in
     let a = s .args in
@@ -53,7 +52,7 @@ returns-2 c =
     exclusion-accepted (a .loopbytes .now) (a .n) (a .m) (s .pre .0) (a .certificate .now) lent (s .pre .1) (called .exclusion .result) (called .exclusion .ensures)
     (passed .if1 .left)
     in
-    (c .accepted .ensures ∙ rw (graded .grade .ensures, read .ensures .0) (told .0), told .1)
+    (c .accepted .ensures ∙ rw (graded .grade .ensures) (told .0), told .1)
 
 pub judge-excluded-spec : {M : Type 1} → statement M
 judge-excluded-spec =
@@ -62,7 +61,6 @@ judge-excluded-spec =
     exclusion-requires
     refused-requires
     returns
-    u16-at-requires
     grade-requires
     accepted-requires
     returns-2)
