@@ -134,11 +134,15 @@ S14-fall-too-large ranks = ranks .falls _ _ from-zero .le
 pub no-fall-of-zero : (loop : Loop) (p : ℕ) (r : List ℤ) (δ0 : ℤ) → Ranks loop p r δ0 (pos 0) → ⊥
 no-fall-of-zero loop p r δ0 ranks = ranks .positive .le
 
--- S9's loop has no whole-number step, so every r ranks it over whole numbers; over fractions none does
+-- where no step between whole numbers is, every r with an entry per variable ranks over whole numbers
+no-step-ranked : (loop : Loop) → ((x x′ : List ℤ) → Step loop 1 x x′ → ⊥) → (r : List ℤ) (δ0 : ℤ) → length r ≡ loop .variables → RanksWhole loop r δ0 (pos 1)
+no-step-ranked loop no-step r δ0 entries =
+    record { entries = entries; positive = leZ-yes tt; bounded = λ X X′ t. absurd (no-step X X′ t); falls = λ X X′ t. absurd (no-step X X′ t) }
+
+-- S9's loop has no such step, so every r ranks it over whole numbers; over fractions none does
 pub S9-ranked-whole : (r δ0 : ℤ) → RanksWhole S9-loop (r ∷ []) δ0 (pos 1)
 unfolding S9-loop
-S9-ranked-whole r δ0 =
-    record { entries = refl; positive = leZ-yes tt; bounded = λ X X′ t. absurd (S9-no-whole-step X X′ t); falls = λ X X′ t. absurd (S9-no-whole-step X X′ t) }
+S9-ranked-whole r δ0 = no-step-ranked S9-loop S9-no-whole-step (r ∷ []) δ0 refl
 
 S9-excluded : ExclusionHolds S9-loop S9
 unfolding S9-loop S9 Each dot less add scale
@@ -166,13 +170,7 @@ half-steps-no-whole-step x x′ t =
 
 pub half-steps-ranked-whole : (r δ0 : ℤ) → RanksWhole half-steps (r ∷ []) δ0 (pos 1)
 unfolding half-steps
-half-steps-ranked-whole r δ0 =
-    record {
-      entries = refl;
-      positive = leZ-yes tt;
-      bounded = λ X X′ t. absurd (half-steps-no-whole-step X X′ t);
-      falls = λ X X′ t. absurd (half-steps-no-whole-step X X′ t);
-    }
+half-steps-ranked-whole r δ0 = no-step-ranked half-steps half-steps-no-whole-step (r ∷ []) δ0 refl
 
 pub by-V-alone-too-wide : ExclusionHolds S9-loop S9 × (all-divided (S9 .q) (S9 .«V») ≡ true) × (step-is-whole S9 ≡ false)
 unfolding S9 step-is-whole all-divided divides

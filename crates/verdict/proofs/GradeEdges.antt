@@ -5,13 +5,16 @@ use mathlib.Core.List.{List, [], _∷_}
 use Prim.Native.Nat.{ℕ}
 use lib.IntN.{ℤ, pos}
 use Rattle.record.specs.Contents.{rows-values, row-values, exclusion-values}
+use Rattle.theory.specs.Rankings.{RanksWhole, RanksFractions}
+use Rattle.theory.specs.Samples as Rows
 use Rattle.whole.specs.Sums.{Each}
 use Rattle.verdict.specs.Computing.{computing}
-use Rattle.verdict.specs.Samples.{−, row, loop-bytes, exclusion-bytes}
+use Rattle.verdict.specs.Samples.{−, row, loop-bytes, exclusion-bytes, ends-without-rank, halves, S8, S9}
 use Rattle.verdict.specs.Stages.{shows}
 use Rattle.verdict.specs.declared.Grade.{Grade}
 use Rattle.verdict.specs.declared.Grade.the-variants.{Whole, Fractions}
 use Rattle.verdict.specs.declared.Outcome.the-variants.{Exclusion}
+use Rattle.verdict.proofs.Demands.{exclusion-rules-out}
 use Rattle.verdict.proofs.SampleSheet.{Line, judged, Holds}
 
 -- -2x + 2x' <= -1; 2x - 2x' <= 1
@@ -41,3 +44,13 @@ grade-lines =
 pub grade-edges : Each Holds grade-lines
 unfolding computing grade-lines Each loop-bytes exclusion-bytes rows-values row-values exclusion-values
 grade-edges = ((refl, refl), ((refl, refl), ((refl, refl), ((refl, refl), ((refl, refl), ((refl, refl), ((refl, refl), ((refl, refl), tt))))))))
+
+-- ---- demand 3 of the bytes: S8, with q 2, rules ranking functions over whole numbers out; S9, over fractions
+
+pub S8-rules-out : (r : List ℤ) (δ0 δ : ℤ) → RanksWhole Rows.S7-loop r δ0 δ → ⊥
+unfolding computing ends-without-rank S8 Rows.S7-loop loop-bytes exclusion-bytes rows-values row-values exclusion-values
+S8-rules-out = exclusion-rules-out ends-without-rank S8 [] refl refl .1 refl
+
+pub S9-rules-out : (r : List ℤ) (δ0 δ : ℤ) → RanksFractions Rows.S9-loop r δ0 δ → ⊥
+unfolding computing halves S9 Rows.S9-loop loop-bytes exclusion-bytes rows-values row-values exclusion-values
+S9-rules-out = exclusion-rules-out halves S9 [] refl refl .0

@@ -23,3 +23,4 @@ pub mod WrongJudges
 pub mod UnlikeSamples
 pub mod ToldExactly
 pub mod ToldInValues
+pub mod ToldOfSamples
