@@ -1,0 +1,8 @@
+-- loops of several paths, their steps and endless runs
+pub mod Paths
+-- a lexicographic argument, its conditions, and what they are held to
+pub mod Lexicographics
+-- the conditions as tests, path by path
+pub mod PathConditions
+-- what a refusal by a condition says
+pub mod PathFails
