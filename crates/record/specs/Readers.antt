@@ -65,20 +65,26 @@ list r = values (fields r) (drop (list-start r) (r .bytes))
 unfoldable pub arguments-fit : Reader → Bool
 arguments-fit r = is-loop (kind r) || (within variables (pos (r .n)) && within rows (pos (r .m)))
 
--- a record that is sound: these tests need no list to fill
-unfoldable pub sound : List (Test Reader)
-sound =
+-- L against the bytes: the tests that records of every kind begin with
+abbrev pub framing : List (Test Reader)
+framing =
     (1 at (λ r. length (r .bytes)) unless λ r. leb 4 (length (r .bytes)))
     ∷ (3 at (λ r. 0) unless λ r. leb 2 (stated-length r))
     ∷ (1 at (λ r. length (r .bytes)) unless λ r. leb (4 + stated-length r) (length (r .bytes)))
     ∷ (2 at (λ r. 4 + stated-length r) unless λ r. leb (length (r .bytes)) (4 + stated-length r))
-    ∷ (4 at (λ r. 4) unless λ r. (r .wants) (kind r))
+    ∷ []
+
+-- a record that is sound: these tests need no list to fill
+unfoldable pub sound : List (Test Reader)
+sound =
+    framing ++
+    ((4 at (λ r. 4) unless λ r. (r .wants) (kind r))
     ∷ (5 at (λ r. 0) unless λ r. arguments-fit r)
     ∷ (3 at (λ r. 0) unless λ r. leb (2 + widths (counts (kind r))) (stated-length r))
     ∷ (5 at (λ r. 6 + before-fault (counts (kind r)) (count-list r)) unless λ r. in-range (counts (kind r)) (count-list r))
     ∷ (3 at (λ r. 0) unless λ r. eqb (stated-length r) (lengthOf (kind r) (counts-read r)))
     ∷ (6 at (λ r. list-start r + before-fault (fields r) (list r)) unless λ r. in-range (fields r) (list r))
-    ∷ []
+    ∷ [])
 
 -- in a reading the lent list must also have a place for each value
 unfoldable pub enough-room : List (Test Reader)

@@ -14,16 +14,16 @@ use Rattle.refusal.proofs.TestLaws.{passed, failed, passes-done, first-then}
 use Rattle.record.specs.Fields.{u16, Field, width, number, widths}
 use Rattle.record.specs.Layouts.{is-known, counts, lengthOf}
 use Rattle.record.specs.Ranges.{within}
-use Rattle.record.specs.Readers.{Reader, stated-length, kind-number, kind, counts-read, fields, list-start, count-list, list, arguments-fit, sound}
+use Rattle.record.specs.Readers.{Reader, framing, stated-length, kind-number, kind, counts-read, fields, list-start, count-list, list, arguments-fit, sound}
 use Rattle.record.proofs.Lengths.{length-law}
 use Rattle.record_fields.specs.Runs.{number-at, fits, fault}
 use Rattle.record_fields.proofs.FirstFaults.{all-fit, not-all-fit, fault-within}
-use Rattle.record_check.specs.Checks.{refusal, checked, checks, framing, Framed, ended}
+use Rattle.record_check.specs.Checks.{refusal, checked, checks, Framed, ended}
 use Rattle.record_check.proofs.FrameWays.{says}
 
 module _ (r : Reader) (f : Framed (r .bytes)) where
   unframed : first sound r ≡ first (drop 4 sound) r
-  unfolding framing sound stated-length
+  unfolding sound stated-length
   unframed =
       let small : 2 ≤ stated-length r = omega (arith, f .head, f .whole) in
       let few : 4 + stated-length r ≤ length (r .bytes) = omega (arith, f .whole) in

@@ -9,9 +9,9 @@ use borrow.Author.Tests.{le-leb, lt-leb, leb-true}
 use Rattle.refusal.specs.Tests.{Told, done, refused, first, number as number-of}
 use Rattle.refusal.proofs.TestLaws.{passed, failed, passes-done, done-passes, zero-done, first-told}
 use Rattle.record.specs.declared.Wanted.{Wanted}
-use Rattle.record.specs.Readers.{Reader, stated-length, sound, loop-reader}
+use Rattle.record.specs.Readers.{Reader, framing, stated-length, sound, loop-reader}
 use Rattle.record_check.specs.declared.Checked.{Checked}
-use Rattle.record_check.specs.Checks.{refusal, checked, checks, certificate-check, framing, framed, Framed}
+use Rattle.record_check.specs.Checks.{refusal, checked, checks, certificate-check, framed, Framed}
 
 module _ (r : Reader) where
   tells : {t : Told} {k p : ℕ} → t ≡ refused k p → refusal k p ≡ framed t
@@ -19,12 +19,12 @@ module _ (r : Reader) where
   tells h = rw h
 
   pub too-short : length (r .bytes) < 4 → refusal 1 (length (r .bytes)) ≡ framed (first framing r)
-  unfolding framing sound
+  unfolding sound
   too-short h = tells (failed _ _ _ _ r (lt-leb _ _ h))
 
   module _ (stated : ℕ) (read : stated ≡ stated-length r) (four : 4 ≤ length (r .bytes)) where
     pub too-small : stated < 2 → refusal 3 0 ≡ framed (first framing r)
-    unfolding framing sound
+    unfolding sound
     too-small h =
         let small : stated-length r < 2 = omega arith in
         tells (passed _ _ _ _ r (le-leb _ _ four) ∙ failed _ _ _ _ r (lt-leb _ _ small))
@@ -34,13 +34,13 @@ module _ (r : Reader) where
       enough = omega arith
 
       pub too-few : length (r .bytes) < 4 + stated → refusal 1 (length (r .bytes)) ≡ framed (first framing r)
-      unfolding framing sound
+      unfolding sound
       too-few h =
           let few : length (r .bytes) < 4 + stated-length r = omega arith in
           tells (passed _ _ _ _ r (le-leb _ _ four) ∙ passed _ _ _ _ r (le-leb _ _ enough) ∙ failed _ _ _ _ r (lt-leb _ _ few))
 
       pub too-many : 4 + stated < length (r .bytes) → refusal 2 (4 + stated) ≡ framed (first framing r)
-      unfolding framing sound
+      unfolding sound
       too-many h =
           let few : 4 + stated-length r ≤ length (r .bytes) = omega arith in
           let many : 4 + stated-length r < length (r .bytes) = omega arith in
@@ -48,7 +48,7 @@ module _ (r : Reader) where
           (tells (passed _ _ _ _ r (le-leb _ _ four) ∙ passed _ _ _ _ r (le-leb _ _ enough) ∙ passed _ _ _ _ r (le-leb _ _ few) ∙ failed _ _ _ _ r (lt-leb _ _ many)))
 
       pub just-right : length (r .bytes) ≡ 4 + stated → refusal 0 0 ≡ framed (first framing r)
-      unfolding framing framed sound
+      unfolding framed sound
       just-right h =
           let few : 4 + stated-length r ≤ length (r .bytes) = omega arith in
           let many : length (r .bytes) ≤ 4 + stated-length r = omega arith in
@@ -61,7 +61,7 @@ module _ (r : Reader) where
 
   -- what a frame's answer says of the record
   pub frame-refuses : (v : Checked) → v ≡ framed (first framing r) → (v .number ≡ 0 → ⊥) → v ≡ checks r
-  unfolding framed framing sound
+  unfolding framed sound
   frame-refuses v told some = by-told (first framing r) refl
     where
       by-told : (t : Told) → first framing r ≡ t → v ≡ checks r
@@ -83,7 +83,7 @@ module _ (r : Reader) where
   number-told (refused k p) = refl
 
   pub frame-passes : (v : Checked) → v ≡ framed (first framing r) → v .number ≡ 0 → Framed (r .bytes)
-  unfolding framing sound stated-length
+  unfolding sound stated-length
   frame-passes v told none =
       let zero-told : number-of (first framing r) ≡ 0 = sym (number-told (first framing r)) ∙ ap (λ x. x .number) (sym told) ∙ none in
       let h = done-passes framing r (zero-done framing r refl zero-told) in
@@ -94,5 +94,5 @@ module _ (r : Reader) where
 
 -- the frame is one for loops and certificates
 pub same-frame : (wanted : Wanted) (bytes : List ℕ) (n m : ℕ) → first framing (loop-reader bytes []) ≡ first framing (certificate-check wanted bytes n m)
-unfolding first framing sound stated-length loop-reader certificate-check
+unfolding first sound stated-length loop-reader certificate-check
 same-frame wanted bytes n m = refl

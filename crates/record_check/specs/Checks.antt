@@ -6,9 +6,9 @@ use mathlib.Core.Bool.{true, cond, _&&_}
 use mathlib.Core.List.{List}
 use lib.Dec.{ltb}
 use lib.IntN.{pos}
-use lib.ListN.{length, take}
+use lib.ListN.{length}
 use Rattle.endian.specs.Numbers.{littleAt}
-use Rattle.refusal.specs.Tests.{Told, done, refused, Test, first}
+use Rattle.refusal.specs.Tests.{Told, done, refused, first}
 use Rattle.record.specs.declared.Wanted.{Wanted}
 use Rattle.record.specs.Layouts.{Kind}
 use Rattle.record.specs.Ranges.{variables, rows, within}
@@ -34,11 +34,7 @@ certificate-check wanted bytes n m = record { bytes = bytes; wants = wants-of wa
 
 -- ---- in parts
 
--- the tests of L against the bytes
-unfoldable pub framing : List (Test Reader)
-framing = take 4 sound
-
--- what they tell
+-- what the tests of L against the bytes tell
 unfoldable pub framed : Told → Checked
 framed done = refusal 0 0
 framed (refused number place) = refusal number place

@@ -4,9 +4,9 @@ ghost use mathlib.Core.List.{[]};
 ghost use Rattle.endian.specs.Numbers.{littleAt};
 ghost use Rattle.refusal.specs.Tests.{first};
 ghost use Rattle.record.specs.Layouts.{ranking, exclusion, lasso, kindOf};
-ghost use Rattle.record.specs.Readers.{loop-reader};
+ghost use Rattle.record.specs.Readers.{framing, loop-reader};
 ghost use Rattle.record.specs.Wants.{wants-of};
-ghost use Rattle.record_check.specs.Checks.{refusal, checks, certificate-check, framing, framed, Framed, Opened, Answers, ended};
+ghost use Rattle.record_check.specs.Checks.{refusal, checks, certificate-check, framed, Framed, Opened, Answers, ended};
 use record::Wanted;
 
 // What a check answers: on a sound record its kind and counts, and number 0; on a refusal all but number and place are 0.
@@ -33,7 +33,7 @@ fn refused(number: usize, place: usize) -> Checked
 }
 
 // The length L against the bytes.
-fn frame(bytes: &[u8]) -> Checked
+pub fn frame(bytes: &[u8]) -> Checked
     ensures { λ r. ⌜ r ≡ framed (first framing (loop-reader (now (bytes .entry)) [])) ⌝ }
 {
     let long = bytes.len();

@@ -9,10 +9,9 @@ use native.Mathlib.Omega.{arith}
 use lib.ListN.{length, take, drop, length-take, take-append-drop}
 use lib.Seq.{take-length}
 use borrow.Author.Tests.{le-leb, leb-true}
-use Rattle.record_check.specs.Checks.{framing}
 use Rattle.endian.specs.Numbers.{littleAt}
 use Rattle.endian.proofs.Laws.{littleAt-first}
-use Rattle.record.specs.Readers.{Reader, stated-length, sound}
+use Rattle.record.specs.Readers.{Reader, framing, stated-length, sound}
 use Rattle.refusal.specs.Tests.{done, first}
 use Rattle.refusal.proofs.TestLaws.{Passes, passes-done, done-passes}
 use Rattle.record_parting.specs.Parting.{stated, whole-first, taken, first-record}
@@ -25,7 +24,7 @@ same-length-stated r = refl
 
 -- the frame's tests are passed by one whole record, and by nothing else
 pub one-record : (r : Reader) → (first framing r ≡ done) ↔ ((whole-first (r .bytes) ≡ true) × (taken (r .bytes) ≡ length (r .bytes)))
-unfolding framing sound stated-length stated
+unfolding sound stated-length stated
 one-record r = (
   λ h.
       let tests : Passes framing r = done-passes framing r h in

@@ -12,6 +12,7 @@ pub enum Outcome {
     Ranking { start: i64, fall: i64 },
     Exclusion { grade: Grade },
     Lasso { start: i64, fall: i64 },
+    Lexicographic,
 }
 
 // The refusal number, its place, the record that it speaks of (1 loop, 2 certificate, 0 neither), and the outcome.

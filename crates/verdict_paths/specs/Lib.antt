@@ -1,0 +1,8 @@
+-- what sound records of kinds 5 and 6 hold, in the theory's words
+pub mod PathContents
+-- what judging answers of them
+pub mod PathJudging
+-- what judging answers of every loop, by its kind
+pub mod JudgingByLoop
+-- one name that opens every definition, for tables
+pub mod JudgingComputing
