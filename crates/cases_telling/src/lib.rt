@@ -83,6 +83,7 @@ fn shown(outcome: Outcome) {
             word(b" lasso");
             start_and_fall(start, fall);
         }
+        Outcome::Lexicographic => word(b" lexicographic"),
     }
 }
 

@@ -112,6 +112,7 @@ fn flat_verdict(v: Verdict) -> FlatVerdict
             Grade::Fractions => flat_told(v, 3, 0, 0, 2),
         },
         Outcome::Lasso { start, fall } => flat_told(v, 4, start, fall, 0),
+        Outcome::Lexicographic => flat_told(v, 6, 0, 0, 0),
     }
 }
 

@@ -5,7 +5,7 @@ use borrow.Author.Needs.{needs, sfits-of}
 use Rattle.verdict.specs.Outcomes.{numbers, grade-number}
 use Rattle.verdict.specs.declared.Grade.the-variants.{Whole, Fractions}
 use Rattle.verdict.specs.declared.Outcome.{Outcome}
-use Rattle.verdict.specs.declared.Outcome.the-variants.{Nothing, Ranking, Exclusion, Lasso}
+use Rattle.verdict.specs.declared.Outcome.the-variants.{Nothing, Ranking, Exclusion, Lasso, Lexicographic}
 use Rattle.verdict.specs.declared.Verdict.{Verdict}
 use Rattle.rip.specs.Flat.{told, flat-verdict}
 use Rattle.rip.proofs.flat_verdict.Statement.{statement}
@@ -48,6 +48,12 @@ enum-known-outcome-3 c = search needs
 flat-told-requires-5 : tie.Need-flat-told-requires-5
 flat-told-requires-5 c κs = search needs
 
+enum-told-4 : tie.Need-enum-told-4
+enum-told-4 c = search needs
+
+flat-told-requires-6 : tie.Need-flat-told-requires-6
+flat-told-requires-6 c κs = search needs
+
 returns : tie.Need-returns
 unfolding numbers
 returns c = c .flat-told .ensures ∙ by-outcome _ Nothing (c .before .enum-told .given .1)
@@ -72,6 +78,10 @@ returns-5 c =
     let k = c .before in
     rw (toZ-ofZ (sfits-of (k .known-told3 .given .0 .1)), toZ-ofZ (sfits-of (k .known-told3 .given .1 .0 .1))) at (c .flat-told5 .ensures) ∙ by-outcome _ (Lasso _ _) (k .before .outcome3 .given .1)
 
+returns-6 : tie.Need-returns-6
+unfolding numbers
+returns-6 c = c .flat-told6 .ensures ∙ by-outcome _ Lexicographic (c .before .enum-told4 .given .1)
+
 pub flat-verdict-spec : {M : Type 1} → statement M
 flat-verdict-spec =
     tie.close
@@ -87,8 +97,11 @@ flat-verdict-spec =
     flat-told-requires-4
     enum-known-outcome-3
     flat-told-requires-5
+    enum-told-4
+    flat-told-requires-6
     returns
     returns-2
     returns-3
     returns-4
-    returns-5)
+    returns-5
+    returns-6)

@@ -11,7 +11,7 @@ use borrow.Author.Needs.{needs}
 use Rattle.decimal.specs.Decimals.{decimal}
 use Rattle.sheet_lines.specs.VerdictLines.{rank-words, outcome-words}
 use Rattle.sheet_lines.specs.Words.{bytes, line}
-use Rattle.sheet_lines.proofs.LineLaws.{rank-word, lasso-word, whole-line, fractions-line, nothing-line, ranking-line, lasso-line, whole-exclusion-line, fractions-exclusion-line}
+use Rattle.sheet_lines.proofs.LineLaws.{rank-word, lasso-word, whole-line, fractions-line, nothing-line, lexicographic-line, ranking-line, lasso-line, whole-exclusion-line, fractions-exclusion-line}
 use Rattle.sheet_write_lines.proofs.put_verdict.Statement.{statement}
 use Rattle.sheet_write_lines.proofs.put_verdict.Tie as tie
 
@@ -23,6 +23,10 @@ text-of s = line (outcome-words (s .args .v .outcome) (s .args .v .number) (s .a
 nothing : (c : tie.After-enum-told)
     → text-of (c .before .before .before) ≡ line (bytes "refused" ∷ decimal (c .before .before .before .args .v .number) ∷ decimal (c .before .before .before .args .v .place) ∷ [])
 nothing c = let a = c .before .before .before .args in nothing-line (a .v .outcome) (a .v .number) (a .v .place) (a .rank .now) (c .enum-told .given .1)
+
+lexicographic : (c : tie.After-enum-told4)
+    → text-of (c .before .before .before) ≡ line (bytes "refused" ∷ decimal (c .before .before .before .args .v .number) ∷ decimal (c .before .before .before .args .v .place) ∷ [])
+lexicographic c = let a = c .before .before .before .args in lexicographic-line (a .v .outcome) (a .v .number) (a .v .place) (a .rank .now) (c .enum-told4 .given .1)
 
 ranking : (c : tie.After-known-told)
     → text-of (c .before .before .before .before) ≡ rank-word ++ line (rank-words (c .before .before .before .before .args .rank .now) (c .before .outcome .given .0 .0) (c .before .outcome .given .0 .1 .0))
@@ -97,6 +101,12 @@ put-rank-requires-2 c κs =
     let k = c .before .before in
     rw (toZ-ofZ (lasso-fits k .0), toZ-ofZ (lasso-fits k .1)) (omega (arith, simp length-append at (ap length (lasso k))))
 
+enum-told-4 : tie.Need-enum-told-4
+enum-told-4 c = search needs
+
+put-refusal-requires-2 : tie.Need-put-refusal-requires-2
+put-refusal-requires-2 c κs = rw (← lexicographic (c .before)) (c .before .before .before .before .pre)
+
 same-length : tie.Need-same-length
 same-length c = search needs
 
@@ -131,6 +141,12 @@ returns-5 c =
     let k = c .before .before .before .before .before in
     rw (lasso k) (rw (toZ-ofZ (lasso-fits k .0), toZ-ofZ (lasso-fits k .1)) at (c .before .before .put-rank2 .ensures))
 
+same-length-6 : tie.Need-same-length-6
+same-length-6 c = search needs
+
+returns-6 : tie.Need-returns-6
+returns-6 c = rw (lexicographic (c .before .before .before .before)) (c .before .before .put-refusal2 .ensures)
+
 pub put-verdict-spec : {M : Type 1} → statement M
 put-verdict-spec =
     tie.close
@@ -150,6 +166,8 @@ put-verdict-spec =
     enum-known-outcome-3
     slice-aggregate-put-rank-2
     put-rank-requires-2
+    enum-told-4
+    put-refusal-requires-2
     same-length
     returns
     same-length-2
@@ -159,4 +177,6 @@ put-verdict-spec =
     same-length-4
     returns-4
     same-length-5
-    returns-5)
+    returns-5
+    same-length-6
+    returns-6)
