@@ -23,7 +23,7 @@ fn add_entry(total: Total, multiplier: usize, rows: &[u8], place: usize) -> Tota
 }
 
 // The same with a right side.
-fn add_right(total: Total, multiplier: usize, rows: &[u8], place: usize) -> Total
+pub fn add_right(total: Total, multiplier: usize, rows: &[u8], place: usize) -> Total
     requires { ⌜ CanGrow (total .sum) × (multiplier < 65536) × (place + 4 ≤ length (now rows)) ⌝ }
     ensures { λ r. ⌜ Adds mostRight (pos multiplier *ℤ rightAt (now (rows .entry)) place) (total .sum) (r .sum) ⌝ }
 {
@@ -96,7 +96,7 @@ pub fn column_of(
 }
 
 // A total and one term more: the multiplier times the lifted entry at a place.
-fn add_lifted(sum: i64, multiplier: usize, rows: &[u8], place: usize) -> i64
+pub fn add_lifted(sum: i64, multiplier: usize, rows: &[u8], place: usize) -> i64
     requires { ⌜ CanGrow sum × (multiplier < 65536) × (place + 2 ≤ length (now rows)) ⌝ }
     ensures { λ r. ⌜ Lifts multiplier (entryAt (now (rows .entry)) place) sum r ⌝ }
 {

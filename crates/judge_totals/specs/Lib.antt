@@ -1,0 +1,2 @@
+-- one row more for the totals beside the columns'
+pub mod Visits
