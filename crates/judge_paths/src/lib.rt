@@ -1,0 +1,179 @@
+// What the conditions of a lexicographic argument tell (02, Q-3), straight from the bytes of sound records of kinds 5 and 6: path by path
+// 51, 52 or 53, each a law of weighted rows over the path's own rows.
+ghost use Prim.Native.Nat.{_+_, _*_, _≤_, _<_};
+ghost use mathlib.Core.Path.{_≡_};
+ghost use lib.IntN.{natAbs, negℤ};
+ghost use lib.ListN.{length};
+ghost use Rattle.judge_sums.specs.Places.{AllModest};
+ghost use Rattle.judge_sums.specs.Running.{Modest};
+ghost use Rattle.theory_paths.specs.PathConditions.{every, weighs as weighs-so};
+ghost use Rattle.judge_paths.specs.PathByPlaces.{weighted-by, column-held, bounded-by, falling-by, staying-by, path-number, WeightsIn, PathIn};
+
+// -z
+fn minus(z: i64) -> i64
+    requires { ⌜ natAbs z ≤ 2147483648 ⌝ }
+    ensures { λ r. ⌜ (r ≡ negℤ z) × (natAbs r ≤ 2147483648) ⌝ }
+{
+    -z
+}
+
+// Whether column j's totals, out of lifted ones, are -r and next times r.
+fn column_holds(
+    sums: &[i64],
+    lift: i64,
+    n: usize,
+    certificate: &[u8],
+    r: usize,
+    next: usize,
+    j: usize,
+) -> bool
+    requires { ⌜ (2 * n ≤ length (now sums)) × (n ≤ 16) × (j < n) × AllModest (2 * n) (now sums) × Modest lift
+        × (r + 4 * n ≤ length (now certificate)) × (next < 65536) ⌝ }
+    ensures { λ h. ⌜ h ≡ column-held (now (sums .entry)) lift n (now (certificate .entry)) r next j ⌝ }
+{
+    let entry = endian::i32_at(certificate, r + 4 * j);
+    if judge_ranking::unlifted(sums, j, lift) != minus(entry) {
+        return false;
+    }
+    judge_ranking::unlifted(sums, n + j, lift) == judge_conditions::times(next, entry)
+}
+
+// The same of all columns.
+fn columns_hold(
+    sums: &[i64],
+    lift: i64,
+    n: usize,
+    certificate: &[u8],
+    r: usize,
+    next: usize,
+) -> bool
+    requires { ⌜ (2 * n ≤ length (now sums)) × (n ≤ 16) × AllModest (2 * n) (now sums) × Modest lift
+        × (r + 4 * n ≤ length (now certificate)) × (next < 65536) ⌝ }
+    ensures { λ h. ⌜ h ≡ every n (column-held (now (sums .entry)) lift n (now (certificate .entry)) r next) ⌝ }
+{
+    for j in 0..n {
+        if !column_holds(sums, lift, n, certificate, r, next, j) {
+            return false;
+        }
+    }
+    true
+}
+
+// Whether rows weigh as they are held to: over A to -r, over A' to next times r, and their right sides to no more than the limit.
+fn weighs(
+    rows: &[u8],
+    row: usize,
+    n: usize,
+    m: usize,
+    certificate: &[u8],
+    place: usize,
+    r: usize,
+    next: usize,
+    limit: i64,
+) -> bool
+    requires { ⌜ WeightsIn (now rows) row n m (now certificate) place r × (next < 65536) ⌝ }
+    ensures { λ h. ⌜ h ≡ weighs-so n (weighted-by (now (rows .entry)) row n m (now (certificate .entry)) place r next limit) ⌝ }
+{
+    let mut sums = [0i64; 32];
+    let beside = judge_totals::sum_rows(&mut sums, rows, row, n, certificate, place, m);
+    let right = beside.right;
+    if limit < right.sum {
+        return false;
+    }
+    let lift = beside.lift;
+    columns_hold(&sums, lift.sum, n, certificate, r, next)
+}
+
+// Bounded: the path's own component is δ0 at least before a step.
+fn is_bounded(
+    rows: &[u8],
+    row: usize,
+    n: usize,
+    m: usize,
+    certificate: &[u8],
+    place: usize,
+    own: usize,
+) -> bool
+    requires { ⌜ WeightsIn (now rows) row n m (now certificate) place own × (own + (4 * n + 8) ≤ length (now certificate)) ⌝ }
+    ensures { λ h. ⌜ h ≡ weighs-so n (bounded-by (now (rows .entry)) row n m (now (certificate .entry)) place own) ⌝ }
+{
+    let start = endian::i32_at(certificate, own + 4 * n);
+    weighs(rows, row, n, m, certificate, place, own, 0, minus(start))
+}
+
+// Ranking: it falls by δ or more.
+fn does_fall(
+    rows: &[u8],
+    row: usize,
+    n: usize,
+    m: usize,
+    certificate: &[u8],
+    place: usize,
+    own: usize,
+) -> bool
+    requires { ⌜ WeightsIn (now rows) row n m (now certificate) place own × (own + (4 * n + 8) ≤ length (now certificate)) ⌝ }
+    ensures { λ h. ⌜ h ≡ weighs-so n (falling-by (now (rows .entry)) row n m (now (certificate .entry)) place own) ⌝ }
+{
+    let fall = endian::i32_at(certificate, own + 4 * n + 4);
+    weighs(rows, row, n, m, certificate, place, own, 1, minus(fall))
+}
+
+// Unaffecting: none of the earlier components rises.
+fn none_rises(
+    rows: &[u8],
+    row: usize,
+    n: usize,
+    m: usize,
+    certificate: &[u8],
+    place: usize,
+    first: usize,
+    earlier: usize,
+) -> bool
+    requires { ⌜ PathIn (now rows) row n m (now certificate) place first earlier ⌝ }
+    ensures { λ h. ⌜ h ≡ every earlier (λ i. weighs-so n (staying-by (now (rows .entry)) row n m (now (certificate .entry)) (place + 4 * m) first i)) ⌝ }
+{
+    let lists = place + 4 * m;
+    for i in 0..earlier {
+        if !weighs(
+            rows,
+            row,
+            n,
+            m,
+            certificate,
+            lists + 2 * m * i,
+            first + i * (4 * n + 8),
+            1,
+            0,
+        ) {
+            return false;
+        }
+    }
+    true
+}
+
+// The number that is told of a path: 51, 52, 53, or 0.
+fn path_told(
+    rows: &[u8],
+    row: usize,
+    n: usize,
+    m: usize,
+    certificate: &[u8],
+    place: usize,
+    first: usize,
+    component: usize,
+) -> usize
+    requires { ⌜ PathIn (now rows) row n m (now certificate) place first component ⌝ }
+    ensures { λ k. ⌜ k ≡ path-number (now (rows .entry)) row n m (now (certificate .entry)) place first component ⌝ }
+{
+    let own = first + component * (4 * n + 8);
+    if !is_bounded(rows, row, n, m, certificate, place, own) {
+        return 51;
+    }
+    if !does_fall(rows, row, n, m, certificate, place + 2 * m, own) {
+        return 52;
+    }
+    if !none_rises(rows, row, n, m, certificate, place, first, component) {
+        return 53;
+    }
+    0
+}
