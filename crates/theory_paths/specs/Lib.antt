@@ -6,3 +6,5 @@ pub mod Lexicographics
 pub mod PathConditions
 -- what a refusal by a condition says
 pub mod PathFails
+-- one path alone: rankings as arguments, and arguments as rankings
+pub mod OnePath
