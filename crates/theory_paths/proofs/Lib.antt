@@ -6,3 +6,5 @@ pub mod FallingEnds
 pub mod LexicographicTheorems
 -- the tests and the conditions say the same, and tell exactly the first that fails
 pub mod PathDecisions
+-- theorems about the samples, and the table of what is told
+pub mod PathSampleTheorems

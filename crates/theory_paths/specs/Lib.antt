@@ -8,3 +8,7 @@ pub mod PathConditions
 pub mod PathFails
 -- one path alone: rankings as arguments, and arguments as rankings
 pub mod OnePath
+-- loops and arguments that theorems and the table speak of
+pub mod PathSamples
+-- what is told of them
+pub mod PathTable
