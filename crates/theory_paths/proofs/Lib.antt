@@ -6,5 +6,7 @@ pub mod FallingEnds
 pub mod LexicographicTheorems
 -- the tests and the conditions say the same, and tell exactly the first that fails
 pub mod PathDecisions
+-- steps of rows that are written out
+pub mod PlainSteps
 -- theorems about the samples, and the table of what is told
 pub mod PathSampleTheorems
