@@ -25,29 +25,30 @@ opposite x y h = solve (v x) (v (negsuc 0) ⊗ v y) (omega (arith, eq-fact (v x 
 pub no-difference : (x y : ℤ) → x -ℤ y ≡ pos 0 → x ≡ y
 no-difference x y h = solve (v x) (v y) (omega (arith, eq-fact (v x ⊝ v y) (v (pos 0)) h))
 
-module _ (loop : Loop) (c : Ranking) (nonneg : NonNegative c) (holds : RankingHolds loop c) where
-  rank-at : (j : ℕ) → j < loop .variables → getD (rank loop c) j (pos 0) ≡ sum (c .Z) (A′ j) (loop .rows)
-  unfolding rank
-  rank-at j h = tabulate-at (loop .variables) (λ i. sum (c .Z) (A′ i) (loop .rows)) j (pos 0) h
+pub rank-at : (loop : Loop) (c : Ranking) (j : ℕ) → j < loop .variables → getD (rank loop c) j (pos 0) ≡ sum (c .Z) (A′ j) (loop .rows)
+unfolding rank
+rank-at loop c j h = tabulate-at (loop .variables) (λ i. sum (c .Z) (A′ i) (loop .rows)) j (pos 0) h
 
-  -- ZA = -r, and YA = -r
-  ZA-column : (j : ℕ) → j < loop .variables → sum (c .Z) (A j) (loop .rows) ≡ negsuc 0 *ℤ getD (rank loop c) j (pos 0)
-  ZA-column j h = rw (rank-at j h) (opposite _ _ (sym (sum-add (c .Z) (A j) (A′ j) (loop .rows)) ∙ holds .third j h))
+-- ZA = -r, YA = -r and YA′ = 0
+module _ (loop : Loop) (c : Ranking) (holds : RankingHolds loop c) where
+  pub ZA-column : (j : ℕ) → j < loop .variables → sum (c .Z) (A j) (loop .rows) ≡ negsuc 0 *ℤ getD (rank loop c) j (pos 0)
+  ZA-column j h = rw (rank-at loop c j h) (opposite _ _ (sym (sum-add (c .Z) (A j) (A′ j) (loop .rows)) ∙ holds .third j h))
 
-  YA-column : (j : ℕ) → j < loop .variables → sum (c .Y) (A j) (loop .rows) ≡ negsuc 0 *ℤ getD (rank loop c) j (pos 0)
+  pub YA-column : (j : ℕ) → j < loop .variables → sum (c .Y) (A j) (loop .rows) ≡ negsuc 0 *ℤ getD (rank loop c) j (pos 0)
   YA-column j h = no-difference _ _ (sym (sum-less-weights (c .Y) (c .Z) (A j) (loop .rows)) ∙ holds .second j h) ∙ ZA-column j h
 
-  YA′-column : (j : ℕ) → j < loop .variables → sum (c .Y) (A′ j) (loop .rows) ≡ pos 0 *ℤ getD (rank loop c) j (pos 0)
+  pub YA′-column : (j : ℕ) → j < loop .variables → sum (c .Y) (A′ j) (loop .rows) ≡ pos 0 *ℤ getD (rank loop c) j (pos 0)
   YA′-column j h = holds .first j h ∙ sym (zero-*ℤ (getD (rank loop c) j (pos 0)))
 
+module _ (loop : Loop) (c : Ranking) (nonneg : NonNegative c) (holds : RankingHolds loop c) where
   module _ (p : ℕ) (X X′ : List ℤ) (t : Step loop p X X′) where
     is-bounded : (pos p *ℤ start loop c) ≤ℤ dot (rank loop c) X
     unfolding start
     is-bounded =
         above (pos p) (sum (c .Y) b (loop .rows)) _ _ _ (dot (rank loop c) X′)
         (weighted loop (c .Y) p X X′ (nonneg .0) t)
-        (columns-are loop (c .Y) A (negsuc 0) (rank loop c) X (t .before) YA-column)
-        (columns-are loop (c .Y) A′ (pos 0) (rank loop c) X′ (t .after) YA′-column)
+        (columns-are loop (c .Y) A (negsuc 0) (rank loop c) X (t .before) (YA-column loop c holds))
+        (columns-are loop (c .Y) A′ (pos 0) (rank loop c) X′ (t .after) (YA′-column loop c holds))
       where
         above : (p Yb YA·X YA′·X′ r·X r·X′ : ℤ) → (YA·X +ℤ YA′·X′) ≤ℤ (p *ℤ Yb) → YA·X ≡ negsuc 0 *ℤ r·X → YA′·X′ ≡ pos 0 *ℤ r·X′ → (p *ℤ negℤ Yb) ≤ℤ r·X
         above p Yb YA·X YA′·X′ r·X r·X′ h e f =
@@ -64,7 +65,7 @@ module _ (loop : Loop) (c : Ranking) (nonneg : NonNegative c) (holds : RankingHo
     does-fall =
         below (pos p) (sum (c .Z) b (loop .rows)) _ (dot (rank loop c) X) (dot (rank loop c) X′)
         (weighted loop (c .Z) p X X′ (nonneg .1) t)
-        (columns-are loop (c .Z) A (negsuc 0) (rank loop c) X (t .before) ZA-column)
+        (columns-are loop (c .Z) A (negsuc 0) (rank loop c) X (t .before) (ZA-column loop c holds))
       where
         below : (p Zb ZA·X r·X r·X′ : ℤ) → (ZA·X +ℤ r·X′) ≤ℤ (p *ℤ Zb) → ZA·X ≡ negsuc 0 *ℤ r·X → (p *ℤ negℤ Zb) ≤ℤ (r·X -ℤ r·X′)
         below p Zb ZA·X r·X r·X′ h e =

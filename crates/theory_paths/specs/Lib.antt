@@ -6,3 +6,9 @@ pub mod Lexicographics
 pub mod PathConditions
 -- what a refusal by a condition says
 pub mod PathFails
+-- one path alone: rankings as arguments, and arguments as rankings
+pub mod OnePath
+-- loops and arguments that theorems and the table speak of
+pub mod PathSamples
+-- what is told of them
+pub mod PathTable

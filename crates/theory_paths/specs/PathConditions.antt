@@ -47,3 +47,7 @@ lexicographicTests n paths = path-by-path paths (pathTests n)
 
 unfoldable pub lexicographicTold : Branches → Lexicographic → Told
 lexicographicTold loop c = first (lexicographicTests (loop .variables) (length (loop .paths))) (record { loop = loop; values = c })
+
+-- what is told of path j alone, for n variables
+unfoldable pub path-told : ℕ → Branches → Lexicographic → ℕ → Told
+path-told n loop c j = first (pathTests n j) (record { loop = loop; values = c })
