@@ -1,0 +1,6 @@
+-- sums over paths
+pub mod PathSums
+-- counts that are in range
+pub mod RunFields
+-- what a sound record of kind 5 or 6 says
+pub mod PathsSound
