@@ -1,0 +1,2 @@
+pub mod WeighedByTotals
+pub mod PathPlaces

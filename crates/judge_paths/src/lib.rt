@@ -32,10 +32,9 @@ fn column_holds(
     ensures { λ h. ⌜ h ≡ column-held (now (sums .entry)) lift n (now (certificate .entry)) r next j ⌝ }
 {
     let entry = endian::i32_at(certificate, r + 4 * j);
-    if judge_ranking::unlifted(sums, j, lift) != minus(entry) {
-        return false;
-    }
-    judge_ranking::unlifted(sums, n + j, lift) == judge_conditions::times(next, entry)
+    let over = judge_ranking::unlifted(sums, j, lift) == minus(entry);
+    let then = judge_ranking::unlifted(sums, n + j, lift) == judge_conditions::times(next, entry);
+    over & then
 }
 
 // The same of all columns.
@@ -118,7 +117,34 @@ fn does_fall(
     weighs(rows, row, n, m, certificate, place, own, 1, minus(fall))
 }
 
-// Unaffecting: none of the earlier components rises.
+// Unaffecting, for the earlier component i: it does not rise. The lists of the earlier components lie from `place` on.
+fn stays(
+    rows: &[u8],
+    row: usize,
+    n: usize,
+    m: usize,
+    certificate: &[u8],
+    place: usize,
+    first: usize,
+    i: usize,
+) -> bool
+    requires { ⌜ WeightsIn (now rows) row n m (now certificate) (place + 2 * m * i) (first + i * (4 * n + 8)) × (i < 8) ⌝ }
+    ensures { λ h. ⌜ h ≡ weighs-so n (staying-by (now (rows .entry)) row n m (now (certificate .entry)) place first i) ⌝ }
+{
+    weighs(
+        rows,
+        row,
+        n,
+        m,
+        certificate,
+        place + 2 * m * i,
+        first + i * (4 * n + 8),
+        1,
+        0,
+    )
+}
+
+// The same of all earlier components. The lists of the path lie from `place` on.
 fn none_rises(
     rows: &[u8],
     row: usize,
@@ -134,17 +160,7 @@ fn none_rises(
 {
     let lists = place + 4 * m;
     for i in 0..earlier {
-        if !weighs(
-            rows,
-            row,
-            n,
-            m,
-            certificate,
-            lists + 2 * m * i,
-            first + i * (4 * n + 8),
-            1,
-            0,
-        ) {
+        if !stays(rows, row, n, m, certificate, lists, first, i) {
             return false;
         }
     }
