@@ -162,14 +162,15 @@ lexicographic-as-ranking n rows c holds falls =
     turned : (d s : ℤ) → s ≤ℤ negℤ d → d ≤ℤ negℤ s
     turned d s h = solve-le (v d) (neg (v s)) (omega (arith, le-fact (v s) (neg (v d)) h))
 
+-- a step goes through the only path
+pub only-path : (n : ℕ) (rows : List Row) (x x′ : List ℤ) → StepThrough (alone n rows) x x′ → Step (over n rows) 1 x x′
+only-path n rows x x′ t = let is : t .through ≡ 0 = omega (arith, t .there) in rw is at (t .step)
+
 -- so with one path the promise is that of a ranking
 pub paths-alone-ends : (n : ℕ) (rows : List Row) (c : Lexicographic) → WellFormed (alone n rows) c → LexicographicHolds (alone n rows) c → Ends (alone n rows)
 paths-alone-ends n rows c well holds state e =
     ranking-bounds-runs (over n rows) (as-ranking c) (part-nonneg c (well .nonneg) 0 .bounded, part-nonneg c (well .nonneg) 0 .ranking)
-    (lexicographic-as-ranking n rows c holds fall-there .conditions) .ends state tt (λ i. only-path _ _ (e i))
+    (lexicographic-as-ranking n rows c holds fall-there .conditions) .ends state tt (λ i. only-path n rows (state i) (state (suc i)) (e i))
   where
     fall-there : pos 1 ≤ℤ own c 0 .δ
     fall-there = each-at (λ k. pos 1 ≤ℤ k .δ) (c .components) _ _ (well .falls) (well .numbered 0 (omega arith))
-
-    only-path : (x x′ : List ℤ) → StepThrough (alone n rows) x x′ → Step (over n rows) 1 x x′
-    only-path x x′ t = let is : t .through ≡ 0 = omega (arith, t .there) in rw is at (t .step)
