@@ -2,7 +2,7 @@
 -- runs or well-formed arguments that is made smaller or larger than it is said then no longer passes, though every theorem still might.
 -- `..-needed`: an argument that lacks that part of `WellFormed` alone, whose conditions hold, of a loop that runs for ever.
 use Prim.Native.Nat.{ℕ, zero, suc, _<_}
-use mathlib.Core.Path.{_≡_, refl}
+use mathlib.Core.Path.{refl}
 use mathlib.Core.List.{List, [], _∷_}
 use native.Mathlib.Omega.{arith}
 use lib.IntN.{ℤ, pos}
@@ -16,7 +16,7 @@ use Rattle.theory.proofs.SampleTheorems.{S9-no-whole-step}
 use Rattle.theory_paths.specs.Paths.{Branches, rows-of, path, StepThrough, RunThrough, EndlessThrough}
 use Rattle.theory_paths.specs.Lexicographics.{Lexicographic, part-at, LexicographicHolds, NonNegativePart, Ends}
 use Rattle.theory_paths.specs.OnePath.{alone}
-use Rattle.theory_paths.specs.PathSamples.{two-counters, ping-pong, to-and-fro, free, component-missing, no-fall, downward}
+use Rattle.theory_paths.specs.PathSamples.{two-counters, to-and-fro, free, component-missing, no-fall, downward}
 use Rattle.theory_paths.specs.PathSamples.{bounded-below-nought, descent, level, ranking-below-nought, at-rest, loose-ping-pong, unaffecting-below-nought}
 use Rattle.theory_paths.specs.PathTable.{computing}
 use Rattle.theory_paths.proofs.LexicographicTheorems.{only-path}
