@@ -132,12 +132,12 @@ module _ (loop : Loop) (c : Exclusion) where
 
 -- ---- weighted rows, in the words of their use: P and Q at each column over A and over A′, R of the right sides
 
-abbrev Weighed-order : ℕ → ℕ → ℕ → ℕ → (ℕ → Type 0) → (ℕ → Type 0) → Type 0 → ℕ → ℕ → Type 0
+abbrev pub Weighed-order : ℕ → ℕ → ℕ → ℕ → (ℕ → Type 0) → (ℕ → Type 0) → Type 0 → ℕ → ℕ → Type 0
 Weighed-order over-A over-A′ over-b n P Q R k p =
     ((over-A ≡ k) × FirstFailing n P p)
     ⊎ (Throughout n P × (((over-A′ ≡ k) × FirstFailing n Q p) ⊎ (Throughout n Q × ((over-b ≡ k) × (0 ≡ p) × (R → ⊥)))))
 
-weighed-decides : (over-A over-A′ over-b n : ℕ) (w : Weighted) {P Q : ℕ → Type 0} {R : Type 0}
+pub weighed-decides : (over-A over-A′ over-b n : ℕ) (w : Weighted) {P Q : ℕ → Type 0} {R : Type 0}
     → ((j : ℕ) → P j ↔ (sum-of w (A j) ≡ times-v w (w .now) j)) → ((j : ℕ) → Q j ↔ (sum-of w (A′ j) ≡ times-v w (w .next) j))
     → (R ↔ (sum-of w b ≤ℤ w .limit))
     → Decides (weighedTests over-A over-A′ over-b n) w (Throughout n P × (Throughout n Q × R)) (Weighed-order over-A over-A′ over-b n P Q R)

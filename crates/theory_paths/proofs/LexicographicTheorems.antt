@@ -8,16 +8,17 @@ use native.Mathlib.Omega.{arith}
 use lib.IntN.{ℤ, pos, negsuc, negℤ, _+ℤ_, _-ℤ_, _*ℤ_, zero-*ℤ}
 use lib.ListN.{length, getD}
 use lib.Signed.{_≤ℤ_, _<ℤ_}
+use Rattle.refusal.specs.Places.{Throughout}
 use Rattle.whole.specs.Sums.{dot, sum, Each, NonNeg}
 use Rattle.whole.proofs.EachLaws.{each-at}
 use Rattle.whole.proofs.Ring.{one-*ℤ}
 use Rattle.whole.proofs.Solve.{v, _⊕_, _⊝_, _⊗_, neg, solve, solve-le, solve-lt, le-fact}
 use Rattle.whole.proofs.SumLaws.{sum-add, sum-less-weights}
 use Rattle.theory.specs.Loops.{Row, A, A′, b, over, Step}
-use Rattle.theory.specs.Rankings.{Ranking, RankingHolds, start, fall}
+use Rattle.theory.specs.Rankings.{Ranking, NonNegative, RankingHolds, start, fall}
 use Rattle.theory.specs.WeightedRows.{Weighs}
 use Rattle.theory.proofs.Steps.{weighed-step}
-use Rattle.theory.proofs.RankingTheorems.{rank-at, ZA-column, YA-column, YA′-column, ranking-bounds-runs}
+use Rattle.theory.proofs.RankingTheorems.{rank-at, ZA-column, YA-column, YA′-column, ranking-is-linear-ranking, ranking-bounds-runs}
 use Rattle.theory_paths.specs.Paths.{Branches, path, StepThrough}
 use Rattle.theory_paths.specs.Lexicographics.{Component, Lexicographic, component-at, part-at, own, bounding, falling, not-rising}
 use Rattle.theory_paths.specs.Lexicographics.{LexicographicHolds, NonNegativePart, WellFormed, Ends}
@@ -125,24 +126,39 @@ ranking-as-lexicographic n rows c holds zero below =
     itself : (z : ℤ) → z ≤ℤ negℤ (negℤ z)
     itself z = solve-le (v z) (neg (neg (v z))) (omega arith)
 
+-- and with a ranking's values it is well-formed
+pub one-component-well-formed : (n : ℕ) (rows : List Row) (c : Ranking) → NonNegative c → RankingHolds (over n rows) c
+    → WellFormed (alone n rows) (one-component (over n rows) c)
+unfolding Each
+one-component-well-formed n rows c nonneg holds =
+    record {
+      nonneg = (record { bounded = nonneg .0; ranking = nonneg .1; unaffecting = tt }, tt);
+      falls = (ranking-is-linear-ranking (over n rows) c nonneg holds 1 (omega arith) .positive, tt);
+      numbered = number;
+    }
+  where
+    number : Throughout 1 (λ j. part-at (one-component (over n rows) c) j .component < 1)
+    number zero below = omega arith
+    number (suc j) below = absurd (omega arith)
+
 pub lexicographic-as-ranking : (n : ℕ) (rows : List Row) (c : Lexicographic) → LexicographicHolds (alone n rows) c → pos 1 ≤ℤ own c 0 .δ → AsRanking n rows c
 unfolding start fall
 lexicographic-as-ranking n rows c holds falls =
     record {
       conditions =
           record {
-            first = λ j h. bounded .over-A′ j h ∙ zero-*ℤ (r j);
-            second = λ j h. sum-less-weights _ _ (A j) rows ∙ apart _ _ (r j) (bounded .over-A j h) (ranking .over-A j h);
-            third = λ j h. sum-add _ (A j) (A′ j) rows ∙ against _ _ (r j) (ranking .over-A j h) (ranking .over-A′ j h);
+            first = λ j h. bounded .over-A′ j h ∙ zero-*ℤ (entry j);
+            second = λ j h. sum-less-weights _ _ (A j) rows ∙ apart _ _ (entry j) (bounded .over-A j h) (ranking .over-A j h);
+            third = λ j h. sum-add _ (A j) (A′ j) rows ∙ against _ _ (entry j) (ranking .over-A j h) (ranking .over-A′ j h);
             fourth = negative _ _ falls (ranking .over-b);
           };
-      same-rank = λ j h. rank-at (over n rows) (as-ranking c) j h ∙ ranking .over-A′ j h ∙ one-*ℤ (r j);
+      same-rank = λ j h. rank-at (over n rows) (as-ranking c) j h ∙ ranking .over-A′ j h ∙ one-*ℤ (entry j);
       start-no-lower = turned _ _ (bounded .over-b);
       fall-no-lower = turned _ _ (ranking .over-b);
     }
   where
-    r : ℕ → ℤ
-    r j = getD (own c 0 .r) j (pos 0)
+    entry : ℕ → ℤ
+    entry j = getD (own c 0 .r) j (pos 0)
 
     bounded : Weighs n (bounding (alone n rows) c 0)
     bounded = holds 0 (omega arith) .bounded
@@ -162,14 +178,15 @@ lexicographic-as-ranking n rows c holds falls =
     turned : (d s : ℤ) → s ≤ℤ negℤ d → d ≤ℤ negℤ s
     turned d s h = solve-le (v d) (neg (v s)) (omega (arith, le-fact (v s) (neg (v d)) h))
 
+-- a step goes through the only path
+pub only-path : (n : ℕ) (rows : List Row) (x x′ : List ℤ) → StepThrough (alone n rows) x x′ → Step (over n rows) 1 x x′
+only-path n rows x x′ t = let is : t .through ≡ 0 = omega (arith, t .there) in rw is at (t .step)
+
 -- so with one path the promise is that of a ranking
 pub paths-alone-ends : (n : ℕ) (rows : List Row) (c : Lexicographic) → WellFormed (alone n rows) c → LexicographicHolds (alone n rows) c → Ends (alone n rows)
 paths-alone-ends n rows c well holds state e =
     ranking-bounds-runs (over n rows) (as-ranking c) (part-nonneg c (well .nonneg) 0 .bounded, part-nonneg c (well .nonneg) 0 .ranking)
-    (lexicographic-as-ranking n rows c holds fall-there .conditions) .ends state tt (λ i. only-path _ _ (e i))
+    (lexicographic-as-ranking n rows c holds fall-there .conditions) .ends state tt (λ i. only-path n rows (state i) (state (suc i)) (e i))
   where
     fall-there : pos 1 ≤ℤ own c 0 .δ
     fall-there = each-at (λ k. pos 1 ≤ℤ k .δ) (c .components) _ _ (well .falls) (well .numbered 0 (omega arith))
-
-    only-path : (x x′ : List ℤ) → StepThrough (alone n rows) x x′ → Step (over n rows) 1 x x′
-    only-path x x′ t = let is : t .through ≡ 0 = omega (arith, t .there) in rw is at (t .step)

@@ -10,3 +10,5 @@ pub mod PathDecisions
 pub mod PlainSteps
 -- theorems about the samples, and the table of what is told
 pub mod PathSampleTheorems
+-- what is in the definitions, and what is not
+pub mod PathPins

@@ -3,8 +3,8 @@
 use Prim.Native.Nat.{ℕ, zero, suc, _<_}
 use mathlib.Core.Path.{_≡_, refl, sym, _∙_}
 use mathlib.Core.Logic.{_↔_, _⊎_, inl, inr}
-use mathlib.Core.Bool.{Bool, true, false, false≢true}
-use mathlib.Core.List.{List, [], _∷_, _++_}
+use mathlib.Core.Bool.{Bool, true, false≢true}
+use mathlib.Core.List.{List, []}
 use native.Mathlib.Omega.{arith}
 use lib.ListN.{length}
 use Rattle.refusal.specs.Tests.{done, refused, Test, first}
@@ -15,7 +15,7 @@ use Rattle.theory.specs.WeightedRows.{Weighs}
 use Rattle.theory.proofs.Orders.{Decides, both, one, changed, decided, told-exactly}
 use Rattle.theory_paths.specs.Paths.{Branches}
 use Rattle.theory_paths.specs.Lexicographics.{Lexicographic, part-at, bounding, falling, not-rising, PathHolds, LexicographicHolds}
-use Rattle.theory_paths.specs.PathConditions.{Proposed, weighs, pathTests, path-by-path, lexicographicTests, lexicographicTold}
+use Rattle.theory_paths.specs.PathConditions.{pathTests, path-by-path, lexicographicTests, lexicographicTold}
 use Rattle.theory_paths.specs.PathFails.{LexicographicFails, fails-51, fails-52, fails-53}
 use Rattle.theory_paths.proofs.PathLaws.{every-holds, every-throughout, weighs-decides}
 

@@ -1,23 +1,26 @@
 -- Laws of the tests of a lexicographic argument, in the shape in which code asks them: a test at each of some places, the one test of
 -- weighted rows, the three tests of a path, and the paths one after another.
 use Prim.Native.Nat.{ℕ, zero, suc, _<_}
-use mathlib.Core.Path.{_≡_, refl, sym, ap, ap₂, _∙_}
+use mathlib.Core.Path.{_≡_, refl, sym, ap₂, _∙_}
 use mathlib.Core.Logic.{_↔_}
 use mathlib.Core.Bool.{Bool, true, false, _&&_}
-use mathlib.Core.List.{List, [], _∷_, _++_}
+use mathlib.Core.List.{List}
 use native.Mathlib.Omega.{arith}
-use lib.IntN.{ℤ, pos}
+use lib.IntN.{pos}
 use lib.ListN.{length, getD}
-use lib.Signed.{leZ, _≤ℤ_}
-use Rattle.refusal.specs.Tests.{Told, done, refused, Test, _at_unless_, first, _then_, number}
+use lib.Signed.{_≤ℤ_}
+use Rattle.refusal.specs.Tests.{done, refused, Test, first, _then_, number}
 use Rattle.refusal.specs.Places.{Throughout}
-use Rattle.refusal.proofs.TestLaws.{both-true, true-both, passed, failed, passes-done, zero-done}
+use Rattle.refusal.proofs.TestLaws.{never, either, both-true, true-both, passed, failed, passes-done, zero-done}
 use Rattle.refusal.proofs.PlaceLaws.{first-append}
 use Rattle.refusal.proofs.FaultLaws.{Named, named-then}
 use Rattle.whole.specs.Same.{sameZ}
 use Rattle.whole.proofs.Compare.{true-same, same-true, true-le, le-true}
 use Rattle.theory.specs.Loops.{A, A′, b}
 use Rattle.theory.specs.WeightedRows.{Weighted, sum-of, times-v, Weighs}
+use Rattle.theory.specs.Conditions.{weighedTests, weighedTold}
+use Rattle.theory.proofs.Orders.{decided}
+use Rattle.theory.proofs.Decisions.{weighed-decides}
 use Rattle.theory_paths.specs.Paths.{Branches}
 use Rattle.theory_paths.specs.Lexicographics.{Lexicographic, part-at, bounding, falling, not-rising}
 use Rattle.theory_paths.specs.PathConditions.{Proposed, every, weighs, pathTests, path-by-path, lexicographicTests, lexicographicTold, path-told}
@@ -80,6 +83,23 @@ unfolding weighs
 weighs-same n w u rows weights v now next limit =
     ap₂ _&&_ (every-same n _ _ (λ j below. rw (rows, weights, now, v j below)))
     (ap₂ _&&_ (every-same n _ _ (λ j below. rw (rows, weights, next, v j below))) (rw (rows, weights, limit)))
+
+-- the three tests of weighted rows, each with a number of its own, are done exactly when the one test holds
+pub weighed-once : (over-A over-A′ over-b n : ℕ) (w : Weighted) → (weighedTold over-A over-A′ over-b n w ≡ done) ↔ (weighs n w ≡ true)
+unfolding weighedTold
+weighed-once over-A over-A′ over-b n w = (
+  λ h. let t = three .0 h in weighs-decides n w .1 (record { over-A = t .0; over-A′ = t .1 .0; over-b = t .1 .1 }),
+  λ h. let t = weighs-decides n w .0 h in three .1 (t .over-A, (t .over-A′, t .over-b)),
+)
+  where
+    three : (first (weighedTests over-A over-A′ over-b n) w ≡ done)
+        ↔ (Throughout n (λ j. sum-of w (A j) ≡ times-v w (w .now) j)
+        × (Throughout n (λ j. sum-of w (A′ j) ≡ times-v w (w .next) j) × (sum-of w b ≤ℤ w .limit)))
+    three = decided (weighed-decides over-A over-A′ over-b n w (λ j. (λ h. h, λ h. h)) (λ j. (λ h. h, λ h. h)) (λ h. h, λ h. h))
+
+pub weighed-refused : (over-A over-A′ over-b n : ℕ) (w : Weighted) (k p : ℕ) → weighedTold over-A over-A′ over-b n w ≡ refused k p → weighs n w ≡ false
+weighed-refused over-A over-A′ over-b n w k p h =
+    either (weighs n w) (λ e. absurd (never (sym h ∙ weighed-once over-A over-A′ over-b n w .1 e))) (λ e. e)
 
 -- ---- one path
 

@@ -4,15 +4,13 @@ use Prim.Native.Nat.{ℕ, zero, suc, _≤_, _<_}
 use mathlib.Core.Path.{_≡_, refl, ap}
 use mathlib.Core.List.{List, [], _∷_, map}
 use native.Mathlib.Omega.{arith}
-use lib.IntN.{ℤ, pos, negsuc}
+use lib.IntN.{ℤ, pos}
 use lib.ListN.{length}
-use lib.Signed.{leZ-yes}
 use Rattle.refusal.specs.Tests.{done, refused}
 use Rattle.refusal.specs.Places.{Throughout}
 use Rattle.whole.specs.Sums.{dot, Each}
-use Rattle.theory.specs.Loops.{Step}
 use Rattle.theory.specs.Conditions.{rankingTold}
-use Rattle.theory_paths.specs.Paths.{Branches, path, StepThrough, RunThrough, EndlessThrough}
+use Rattle.theory_paths.specs.Paths.{path, StepThrough, RunThrough, EndlessThrough}
 use Rattle.theory_paths.specs.Lexicographics.{part-at, WellFormed, Ends}
 use Rattle.theory_paths.specs.PathConditions.{lexicographicTold}
 use Rattle.theory_paths.specs.PathSamples.{x-falls, y-falls, two-counters, two-counters-argument, ping-pong, ping-pong-ranking, ping-pong-argument, to-and-fro}

@@ -2,12 +2,11 @@
 -- fail. A line is what is computed and what it has to be; `PathSampleTheorems` computes them.
 use Prim.Native.Nat.{ℕ}
 use mathlib.Core.List.{List, [], _∷_}
-use lib.IntN.{ℤ, pos, negsuc}
+use lib.IntN.{ℤ, pos}
 use Rattle.refusal.specs.Tests.{Told, done, refused, first}
 use Rattle.whole.specs.Sums.{dot, sum, tabulate}
 use Rattle.theory.specs.Conditions.{rankingTold, rankingTests, _at-each_unless_}
-use Rattle.theory_paths.specs.Paths.{Branches, path}
-use Rattle.theory_paths.specs.Lexicographics.{Lexicographic}
+use Rattle.theory_paths.specs.Paths.{path}
 use Rattle.theory_paths.specs.PathConditions.{every, weighs, pathTests, path-by-path, lexicographicTests, lexicographicTold}
 use Rattle.theory_paths.specs.PathSamples.{component-of, part-of, argument, x-then-y, x-falls, y-falls, two-counters, two-counters-argument}
 use Rattle.theory_paths.specs.PathSamples.{ping-pong, ping-pong-ranking, ping-pong-argument, third-counter, third-owned, free, component-missing}
