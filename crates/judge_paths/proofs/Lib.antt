@@ -1,2 +1,3 @@
 pub mod WeighedByTotals
 pub mod PathPlaces
+pub mod PathsHeld

@@ -6,8 +6,15 @@ ghost use lib.IntN.{natAbs, negℤ};
 ghost use lib.ListN.{length};
 ghost use Rattle.judge_sums.specs.Places.{AllModest};
 ghost use Rattle.judge_sums.specs.Running.{Modest};
-ghost use Rattle.theory_paths.specs.PathConditions.{every, weighs as weighs-so};
+ghost use Rattle.refusal.specs.Faults.{fault-of};
+ghost use Rattle.refusal.specs.Tests.{done, first as first-failing};
+ghost use Rattle.record_paths.specs.PathCertificates.{counted, sound-lexicographic};
+ghost use Rattle.record_paths.specs.PathFields.{bytes-alone};
+ghost use Rattle.record_paths.specs.PathLoops.{sound-paths};
+ghost use Rattle.theory_paths.specs.PathConditions.{every, weighs as weighs-so, lexicographicTold};
+ghost use Rattle.verdict_paths.specs.PathContents.{branches-in, lexicographic-in};
 ghost use Rattle.judge_paths.specs.PathByPlaces.{weighted-by, column-held, bounded-by, falling-by, staying-by, path-number, WeightsIn, PathIn};
+use refusal::Fault;
 
 // -z
 fn minus(z: i64) -> i64
@@ -192,4 +199,36 @@ fn path_told(
         return 53;
     }
     0
+}
+
+// Kind 6, of sound records: the first path that fails a condition, and which. Its rows and its lists lie where those of the paths before it
+// end.
+pub fn paths_fault(loopbytes: &[u8], certificate: &[u8]) -> Fault
+    requires { ⌜ (first-failing sound-paths (bytes-alone (now loopbytes)) ≡ done)
+        × (first-failing (sound-lexicographic (counted (now loopbytes))) (bytes-alone (now certificate)) ≡ done) ⌝ }
+    ensures { λ f. ⌜ f ≡ fault-of (lexicographicTold (branches-in (now (loopbytes .entry)))
+        (lexicographic-in (counted (now (loopbytes .entry))) (now (certificate .entry)))) ⌝ }
+{
+    let n = endian::u16_at(loopbytes, 6);
+    let paths = endian::u16_at(loopbytes, 8);
+    let first = 8 + 2 * paths;
+    let mut row = 10 + 2 * paths;
+    let mut place = first + endian::u16_at(certificate, 6) * (4 * n + 8);
+    for j in 0..paths {
+        let m = endian::u16_at(loopbytes, 10 + 2 * j);
+        let component = endian::u16_at(certificate, 8 + 2 * j);
+        let number = path_told(loopbytes, row, n, m, certificate, place, first, component);
+        if number != 0 {
+            return Fault {
+                number: number,
+                place: j,
+            };
+        }
+        row += m * (4 * n + 4);
+        place += 2 * (m * (2 + component));
+    }
+    Fault {
+        number: 0,
+        place: 0,
+    }
 }
