@@ -1,0 +1,6 @@
+-- a settling's conditions, its count of steps before the threshold, and its promise
+pub mod Settlings
+-- the conditions as tests, in their order
+pub mod SettlingConditions
+-- what a refusal by a condition says
+pub mod SettlingFails

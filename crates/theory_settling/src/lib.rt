@@ -1,0 +1,1 @@
+// Loops that settle first (02, Q-8): definitions and laws, no code.
