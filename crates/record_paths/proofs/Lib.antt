@@ -4,3 +4,5 @@ pub mod PathSums
 pub mod RunFields
 -- what a sound record of kind 5 or 6 says
 pub mod PathsSound
+-- the bytes that components take
+pub mod PathWidths
