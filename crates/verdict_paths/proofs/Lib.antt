@@ -1,0 +1,2 @@
+-- accepted exactly when
+pub mod PathsAccepted
