@@ -1,2 +1,6 @@
 -- accepted exactly when
 pub mod PathsAccepted
+-- fields at places, taken apart and put together
+pub mod FieldsAtPlaces
+-- what sound records hold is within the limits, and well-formed
+pub mod PathsInRange
