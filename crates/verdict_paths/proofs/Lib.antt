@@ -4,3 +4,5 @@ pub mod PathsAccepted
 pub mod FieldsAtPlaces
 -- what sound records hold is within the limits, and well-formed
 pub mod PathsInRange
+-- demand 3 about bytes, and the other kinds
+pub mod PathDemands
