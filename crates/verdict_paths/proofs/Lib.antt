@@ -6,3 +6,5 @@ pub mod FieldsAtPlaces
 pub mod PathsInRange
 -- demand 3 about bytes, and the other kinds
 pub mod PathDemands
+-- what a refusal by a condition means
+pub mod PathsToldExactly

@@ -130,7 +130,7 @@ framed-passes bytes f r e =
     rw e (le-leb _ _ (f .a-length), (le-leb _ _ (f .a-kind), (le-leb _ _ few, (le-leb _ _ many, tt))))
 
 -- what is said is answered
-said-refused : (s : Said) (o : Outcome) (about number place : ℕ) → s ≡ refusal about number place → verdict-of s o ≡ refusal-of about number place
+pub said-refused : (s : Said) (o : Outcome) (about number place : ℕ) → s ≡ refusal about number place → verdict-of s o ≡ refusal-of about number place
 unfolding verdict-of
 said-refused s o a k q e = rw e
 
