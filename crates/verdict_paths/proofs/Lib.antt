@@ -8,3 +8,5 @@ pub mod PathsInRange
 pub mod PathDemands
 -- what a refusal by a condition means
 pub mod PathsToldExactly
+-- the promises, said of samples' bytes
+pub mod PathSamples
