@@ -10,3 +10,5 @@ pub mod PathDemands
 pub mod PathsToldExactly
 -- the promises, said of samples' bytes
 pub mod PathSamples
+-- bytes put together from parts, and read again
+pub mod PartsOfBytes
