@@ -12,3 +12,5 @@ pub mod PathsToldExactly
 pub mod PathSamples
 -- bytes put together from parts, and read again
 pub mod PartsOfBytes
+-- the bytes of values within the limits are sound and hold them
+pub mod PathsReadBack
