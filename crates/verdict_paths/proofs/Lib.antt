@@ -14,3 +14,4 @@ pub mod PathSamples
 pub mod PartsOfBytes
 -- the bytes of values within the limits are sound and hold them
 pub mod PathsReadBack
+pub mod ArgumentsReadBack
