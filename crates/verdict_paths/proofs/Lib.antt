@@ -15,3 +15,5 @@ pub mod PartsOfBytes
 -- the bytes of values within the limits are sound and hold them
 pub mod PathsReadBack
 pub mod ArgumentsReadBack
+-- in values: every proposal in range that meets the conditions is accepted
+pub mod PathsInValues
