@@ -143,8 +143,8 @@ module _ (loop : Branches) (a : Lexicographic) (h : Branches-in loop) (g : Argum
   length-small =
       let each-small : Throughout paths (λ j. weights j ≤ 64 * 9)
       = λ j below.
-          let few : 2 + owned j ≤ 9 = omega (arith, g .parts-in j below .there, few-components .1) in
-          mul-le-mul (m-small loop h j below) few in
+      let few : 2 + owned j ≤ 9 = omega (arith, g .parts-in j below .there, few-components .1) in
+      mul-le-mul (m-small loop h j below) few in
       let all-small : in-all ≤ paths * (64 * 9) = sum-most weights paths (64 * 9) each-small in
       let many : 4 * components ≤ 32 = omega (arith, few-components .1) in
       let wide : n + 2 ≤ 18 = omega (arith, n-between loop h .1) in
@@ -350,7 +350,7 @@ module _ (loop : Branches) (a : Lexicographic) (h : Branches-in loop) (g : Argum
     part-read j below =
         let unaffecting-read : tabulate (owned j) (λ i. list-held c bytes j (2 + i)) ≡ part-at a j .unaffecting
         = tabulate-back (owned j) (λ i. list-held c bytes j (2 + i)) (part-at a j .unaffecting) [] (g .parts-in j below .counted)
-            (λ i early. let past-two : 2 + i ≡ suc (suc i) = omega arith in rw past-two (list-read j below (suc (suc i)) (omega arith))) in
+        (λ i early. let past-two : 2 + i ≡ suc (suc i) = omega arith in rw past-two (list-read j below (suc (suc i)) (omega arith))) in
         rw (owned-read j below, list-read j below 0 (omega arith), list-read j below 1 (omega arith), unaffecting-read)
 
     pub argument-read-back : lexicographic-in c bytes ≡ a
@@ -401,17 +401,37 @@ module _ (loop : Branches) (a : Lexicographic) (h : Branches-in loop) (g : Argum
         let all-counts : 4 + 2 * c .paths ≤ its-length = omega (arith, same-paths) in
         rw (L-read, kind-read, length-is) (
           le-leb _ _ a-length,
-          (le-leb _ _ a-kind,
-          (le-leb _ _ few,
-          (le-leb _ _ many,
-          (refl,
-          (le-leb _ _ one-count,
-          (count-fits-there,
-          (le-leb _ _ all-counts,
-          (eq-eqb _ _ none-missing,
-          (eq-eqb its-length its-length refl,
-          (fields-fit-all,
-          tt)))))))))),
+          (
+            le-leb _ _ a-kind,
+            (
+              le-leb _ _ few,
+              (
+                le-leb _ _ many,
+                (
+                  refl,
+                  (
+                    le-leb _ _ one-count,
+                    (
+                      count-fits-there,
+                      (
+                        le-leb _ _ all-counts,
+                        (
+                          eq-eqb _ _ none-missing,
+                          (
+                            eq-eqb its-length its-length refl,
+                            (
+                              fields-fit-all,
+                              tt,
+                            ),
+                          ),
+                        ),
+                      ),
+                    ),
+                  ),
+                ),
+              ),
+            ),
+          ),
         )
 
     pub argument-sound : first (sound-lexicographic c) (bytes-alone bytes) ≡ done

@@ -144,9 +144,9 @@ paths-with-another loopbytes certificate lent loop-sound f another =
     let five : of-paths loopbytes ≡ true = eq-eqb _ _ (paths-sound loopbytes loop-sound .numbered) in
     let kind-told : first (sound-lexicographic (counts-of p)) (bytes-alone certificate) ≡ refused 4 4
     = first-then framing _ (bytes-alone certificate) (framed-passes certificate f (bytes-alone certificate) refl)
-        ∙ failed 4 _ _ _ (bytes-alone certificate) (ne-eqb _ _ another) in
+    ∙ failed 4 _ _ _ (bytes-alone certificate) (ne-eqb _ _ another) in
     by-paths loopbytes certificate lent five .0
-        ∙ said-refused _ _ 2 4 4 (stage-done 1 _ _ p loop-sound ∙ stage-refused 2 _ _ p 4 4 kind-told)
+    ∙ said-refused _ _ 2 4 4 (stage-done 1 _ _ p loop-sound ∙ stage-refused 2 _ _ p 4 4 kind-told)
 
 -- a sound loop of kind 1 is none of kind 5
 pub kind-1-by-rows : (loopbytes : List ℕ) → first sound (loop-record loopbytes) ≡ done → of-paths loopbytes ≡ false
@@ -168,7 +168,7 @@ rows-with-argument loopbytes certificate lent loop-sound f six =
     let kind-told : first sound r ≡ refused 4 4
     = first-then framing _ r (framed-passes certificate f r refl) ∙ failed 4 _ _ _ r unwanted in
     by-rows loopbytes certificate lent (kind-1-by-rows loopbytes loop-sound) .0
-        ∙ said-refused _ _ 2 4 4 (stage-done 1 _ _ j loop-sound ∙ stage-refused 2 _ _ j 4 4 kind-told)
+    ∙ said-refused _ _ 2 4 4 (stage-done 1 _ _ j loop-sound ∙ stage-refused 2 _ _ j 4 4 kind-told)
 
 -- the two together
 pub record Only-together (loopbytes certificate : List ℕ) (lent : List ℤ) : Type 0 where

@@ -70,8 +70,10 @@ paths-named : (p : Path-pair) → Named path-judging p
 unfolding path-judging sound-paths sound-lexicographic is-kind holds-counts is-long fields-fit
 paths-named p = (
   zero-done sound-paths (bytes-alone (p .loopbytes)) refl,
-  (zero-done (sound-lexicographic (counts-of p)) (bytes-alone (p .certificate)) refl,
-  (conditions-named (paths-held p) (argument-held p), tt)),
+  (
+    zero-done (sound-lexicographic (counts-of p)) (bytes-alone (p .certificate)) refl,
+    (conditions-named (paths-held p) (argument-held p), tt),
+  ),
 )
 
 -- 0 is told exactly when every stage is done

@@ -81,7 +81,7 @@ module _ (c : Counted) (bytes : List ℕ) (s : LexicographicSound c bytes) where
   unfolding component-place certificate-fields
   parts-fit =
       let both = fits-apart bytes (components-fields (c .n) (components-in bytes)) (replicate (all-multipliers c bytes) multiplier)
-          (8 + 2 * c .paths) (s .fields-in-range) in
+      (8 + 2 * c .paths) (s .fields-in-range) in
       let first : 8 + 2 * c .paths + 0 * (4 * c .n + 8) ≡ 8 + 2 * c .paths = omega arith in
       (rw first (both .0), rw components-wide at (both .1))
 
@@ -90,7 +90,7 @@ module _ (c : Counted) (bytes : List ℕ) (s : LexicographicSound c bytes) where
   component-is-in i below =
       let n = c .n in
       let fits = parts-within bytes (components-fields n) (4 * n + 8) refl (components-together n) (components-wide n) (components-in bytes) i 1
-          (component-place c 0) (omega arith) (parts-fit .0) in
+      (component-place c 0) (omega arith) (parts-fit .0) in
       let there : component-place c 0 + i * (4 * n + 8) ≡ component-place c i = omega arith in
       let apart = fits-apart bytes (replicate n direction) (right-side ∷ fall ∷ []) (component-place c i) (rw (there, append-nil) at fits) in
       let wide : component-place c i + n * 4 ≡ component-place c i + 4 * n = omega arith in
@@ -109,7 +109,7 @@ module _ (c : Counted) (bytes : List ℕ) (s : LexicographicSound c bytes) where
       let inside : before + m * k + m ≤ all-multipliers c bytes
       = omega (arith, mul-le-mul-left m early, sum-part (λ i. (c .m) i * (2 + component-in bytes i)) (c .paths) j below) in
       let fits = parts-within bytes (λ k. replicate k multiplier) 2 refl (run-together multiplier) (λ a. widths-replicate a multiplier)
-          (all-multipliers c bytes) (before + m * k) m (component-place c (components-in bytes)) inside (parts-fit .1) in
+      (all-multipliers c bytes) (before + m * k) m (component-place c (components-in bytes)) inside (parts-fit .1) in
       let there : component-place c (components-in bytes) + (before + m * k) * 2 ≡ list-place c bytes j k = omega arith in
       run-in bytes multiplier m (list-place c bytes j k) (rw there at fits)
 

@@ -217,17 +217,37 @@ module _ (loop : Branches) (h : Branches-in loop) where
       let all-counts : 6 + 2 * paths ≤ loop-length = omega arith in
       rw (L-read, kind-read, n-read, paths-read, rows-before-read paths (omega arith)) (
         le-leb _ _ a-length,
-        (le-leb _ _ a-kind,
-        (le-leb _ _ few,
-        (le-leb _ _ many,
-        (refl,
-        (le-leb _ _ two-counts,
-        (counts-fit-there,
-        (le-leb _ _ all-counts,
-        (ms-fit-there,
-        (eq-eqb loop-length loop-length refl,
-        (rows-fit-there,
-        tt)))))))))),
+        (
+          le-leb _ _ a-kind,
+          (
+            le-leb _ _ few,
+            (
+              le-leb _ _ many,
+              (
+                refl,
+                (
+                  le-leb _ _ two-counts,
+                  (
+                    counts-fit-there,
+                    (
+                      le-leb _ _ all-counts,
+                      (
+                        ms-fit-there,
+                        (
+                          eq-eqb loop-length loop-length refl,
+                          (
+                            rows-fit-there,
+                            tt,
+                          ),
+                        ),
+                      ),
+                    ),
+                  ),
+                ),
+              ),
+            ),
+          ),
+        ),
       )
 
   pub branches-sound : first sound-paths (bytes-alone bytes) ≡ done
