@@ -6,3 +6,7 @@ pub mod RunFields
 pub mod PathsSound
 -- the bytes that components take
 pub mod PathWidths
+-- a loop of two paths with its argument, on file
+pub mod PathSamples
+-- the edges of both kinds
+pub mod PathEdges

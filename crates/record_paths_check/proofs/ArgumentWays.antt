@@ -5,7 +5,6 @@ use mathlib.Core.Bool.{true, false}
 use mathlib.Core.List.{List, [], _∷_, _++_}
 use native.Mathlib.Nat.{mul-le-mul}
 use native.Mathlib.Omega.{arith}
-use lib.Dec.{ltb}
 use lib.IntN.{pos}
 use lib.ListN.{length, drop, replicate}
 use borrow.Author.Tests.{le-leb, lt-leb, eq-eqb, ne-eqb, ltb-true}
@@ -29,10 +28,14 @@ use Rattle.record_paths.specs.PathFields.{component-counts, component-count, by
 use Rattle.record_paths.proofs.PathWidths.{widths-components}
 use Rattle.record_paths.proofs.RunFields.{within-both}
 use Rattle.record_paths_check.specs.declared.Walked.{Walked}
-use Rattle.record_paths_check.specs.PathChecks.{ended, walked, Components-counted}
+use Rattle.record_paths_check.specs.PathChecks.{ended, walked, component-there, Components-counted}
 use Rattle.record_paths_check.proofs.FieldFaults.{count-fits}
 use Rattle.record_paths_check.proofs.OrderWays.{past-frame, ends-so}
 use Rattle.record_paths_check.proofs.PathWalks.{all-pass, whole-sum, whole-small}
+
+-- the multipliers of path j
+abbrev lists : Counted → List ℕ → ℕ → ℕ
+lists c bytes j = (c .m) j * (2 + component-in bytes j)
 
 module _ (c : Counted) (bytes : List ℕ) where
   -- what is told of the record
@@ -99,7 +102,7 @@ module _ (c : Counted) (bytes : List ℕ) (components : ℕ) (d : Components-cou
 
     -- a walk along the component numbers
     module _ (there : 8 + 2 * paths ≤ length bytes) (v : Walked)
-        (is : v ≡ walked paths (λ j. ltb (component-in bytes j) components) (λ j. (c .m) j * (2 + component-in bytes j))) where
+        (is : v ≡ walked paths (component-there components bytes) (lists c bytes)) where
       numbers-there : first (sound-lexicographic c) (bytes-alone bytes) ≡ first (drop 8 (sound-lexicographic c)) (bytes-alone bytes)
       unfolding sound-lexicographic holds-counts stated-length bytes-alone
       numbers-there =
@@ -122,17 +125,17 @@ module _ (c : Counted) (bytes : List ℕ) (components : ℕ) (d : Components-cou
         unfolding sound-lexicographic bytes-alone before-missing
         past-numbers =
             let all : before-missing c bytes ≡ c .paths
-            = rw (← d .read, ← read) (all-pass paths (λ j. ltb (component-in bytes j) components) (λ j. (c .m) j * (2 + component-in bytes j)) v is end) in
+            = rw (← d .read, ← read) (all-pass paths (component-there components bytes) (lists c bytes) v is end) in
             numbers-there ∙ passed _ _ _ _ (bytes-alone bytes) (eq-eqb _ _ all)
 
         summed : v .sum ≡ all-multipliers c bytes
         unfolding all-multipliers multipliers-before
-        summed = rw (← read) (whole-sum paths (λ j. ltb (component-in bytes j) components) (λ j. (c .m) j * (2 + component-in bytes j)) v is end)
+        summed = rw (← read) (whole-sum paths (component-there components bytes) (lists c bytes) v is end)
 
         -- the formula stays small
         pub lists-small : Throughout paths (λ j. (c .m) j ≤ 64) → v .sum ≤ paths * 576
         lists-small few =
-            whole-small paths (λ j. ltb (component-in bytes j) components) (λ j. (c .m) j * (2 + component-in bytes j)) v is end 576
+            whole-small paths (component-there components bytes) (lists c bytes) v is end 576
             (λ j below fit.
             let early : component-in bytes j < components = ltb-true _ _ fit in
             let number : 2 + component-in bytes j ≤ 9 = omega (arith, few-components) in

@@ -32,11 +32,13 @@ module _ (bytes : List ℕ) (v : Checked) (is : v ≡ framed (first framing (loo
   unfolding first stated-length loop-reader bytes-alone
   same-frame = refl
 
-  pub frame-refuses : (rest : List (Test Reader)) → (v .number ≡ 0 → ⊥) → tells (v .number) (v .place) ≡ fault-of (first (framing ++ rest) (bytes-alone bytes))
+  pub frame-refuses : (rest : List (Test Reader)) → (v .number ≡ 0 → ⊥)
+      → tells (v .number) (v .place) ≡ fault-of (first (framing ++ rest) (bytes-alone bytes))
   unfolding framed
   frame-refuses rest some = by-told (first framing (bytes-alone bytes)) refl
     where
-      by-told : (t : Told) → first framing (bytes-alone bytes) ≡ t → tells (v .number) (v .place) ≡ fault-of (first (framing ++ rest) (bytes-alone bytes))
+      by-told : (t : Told) → first framing (bytes-alone bytes) ≡ t
+          → tells (v .number) (v .place) ≡ fault-of (first (framing ++ rest) (bytes-alone bytes))
       by-told done e = absurd (some (ap (λ x. x .number) (is ∙ ap framed (same-frame ∙ e))))
       by-told (refused k p) e =
           ap (λ (x : Checked). tells (x .number) (x .place)) (is ∙ ap framed (same-frame ∙ e))
@@ -46,7 +48,8 @@ module _ (bytes : List ℕ) (v : Checked) (is : v ≡ framed (first framing (loo
   unfolding loop-reader
   right-frame none = frame-passes (loop-reader bytes []) v is none
 
-pub past-frame : (rest : List (Test Reader)) (bytes : List ℕ) → Framed bytes → first (framing ++ rest) (bytes-alone bytes) ≡ first rest (bytes-alone bytes)
+pub past-frame : (rest : List (Test Reader)) (bytes : List ℕ) → Framed bytes
+    → first (framing ++ rest) (bytes-alone bytes) ≡ first rest (bytes-alone bytes)
 unfolding stated-length bytes-alone
 past-frame rest bytes f =
     let r = bytes-alone bytes in

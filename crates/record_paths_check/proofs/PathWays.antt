@@ -15,7 +15,7 @@ use Rattle.refusal.specs.Tests.{refused, first}
 use Rattle.refusal.proofs.TestLaws.{passed, failed}
 use Rattle.record.specs.Fields.{width, Field, widths}
 use Rattle.record.specs.Layouts.{variable-count, row-count, rowsOf}
-use Rattle.record.specs.Ranges.{variables, rows, within}
+use Rattle.record.specs.Ranges.{variables, within}
 use Rattle.record.specs.Readers.{stated-length, kind-number}
 use Rattle.record.proofs.CountLimits.{variables-most, rows-most}
 use Rattle.record.proofs.Lengths.{widths-replicate, widths-rows}
@@ -26,7 +26,7 @@ use Rattle.record_paths.specs.PathFields.{path-counts, path-count, bytes-alone,
 use Rattle.record_paths.specs.PathLoops.{variables-in, paths-in, rows-in, all-rows, rows-before, paths-length, sound-paths}
 use Rattle.record_paths.proofs.RunFields.{within-both}
 use Rattle.record_paths_check.specs.declared.Walked.{Walked}
-use Rattle.record_paths_check.specs.PathChecks.{ended, walked, Paths-counted}
+use Rattle.record_paths_check.specs.PathChecks.{ended, walked, m-fits, Paths-counted}
 use Rattle.record_paths_check.proofs.FieldFaults.{count-fits, run-fault}
 use Rattle.record_paths_check.proofs.OrderWays.{past-frame, ends-so}
 use Rattle.record_paths_check.proofs.PathWalks.{all-pass, whole-sum, whole-small}
@@ -118,7 +118,7 @@ module _ (bytes : List ℕ) (n paths : ℕ) (c : Paths-counted bytes n paths) wh
 
     -- the m's before the first that is out of range
     before : ℕ
-    before = before-failing paths (λ j. within rows (pos (rows-in bytes j)))
+    before = before-failing paths (m-fits bytes)
 
     ms-fault : fault (replicate (paths-in bytes) row-count) bytes 10 ≡ 10 + 2 * before
     unfolding before rows-in row-count
@@ -128,13 +128,13 @@ module _ (bytes : List ℕ) (n paths : ℕ) (c : Paths-counted bytes n paths) wh
     unfolding width row-count
     ms-wide = rw (widths-replicate, ← c .paths-read) (omega arith)
 
-    pub bad-m : (k : ℕ) → k ≡ before-failing paths (λ j. within rows (pos (rows-in bytes j))) → k < paths → Tells bytes 5 (10 + 2 * k)
+    pub bad-m : (k : ℕ) → k ≡ before-failing paths (m-fits bytes) → k < paths → Tells bytes 5 (10 + 2 * k)
     unfolding sound-paths fields-fit bytes-alone fault before
     bad-m k is below =
         let out = not-all-fit bytes (replicate (paths-in bytes) row-count) 10 (omega (arith, ms-fault, ms-wide, is)) in
         ms-there ∙ failed _ _ _ _ (bytes-alone bytes) out ∙ ap (λ at. refused 5 at) (ms-fault ∙ rw is)
 
-    module _ (all : before-failing paths (λ j. within rows (pos (rows-in bytes j))) ≡ paths) where
+    module _ (all : before-failing paths (m-fits bytes) ≡ paths) where
       past-ms : first sound-paths (bytes-alone bytes) ≡ first (drop 9 sound-paths) (bytes-alone bytes)
       unfolding sound-paths fields-fit bytes-alone before
       past-ms = ms-there ∙ passed _ _ _ _ (bytes-alone bytes) (all-fit bytes (replicate (paths-in bytes) row-count) 10 (omega (arith, ms-fault, ms-wide, all)))
@@ -159,18 +159,18 @@ module _ (bytes : List ℕ) (n paths : ℕ) (c : Paths-counted bytes n paths) wh
           at (rw (← c .n-read, ← c .paths-read) told)
 
   -- a walk along the m's that came to the end
-  module _ (v : Walked) (is : v ≡ walked paths (λ j. within rows (pos (rows-in bytes j))) (rows-in bytes)) (end : paths ≤ v .paths) where
-    all-in-range : before-failing paths (λ j. within rows (pos (rows-in bytes j))) ≡ paths
-    all-in-range = all-pass paths (λ j. within rows (pos (rows-in bytes j))) (rows-in bytes) v is end
+  module _ (v : Walked) (is : v ≡ walked paths (m-fits bytes) (rows-in bytes)) (end : paths ≤ v .paths) where
+    all-in-range : before-failing paths (m-fits bytes) ≡ paths
+    all-in-range = all-pass paths (m-fits bytes) (rows-in bytes) v is end
 
     summed : v .sum ≡ all-rows bytes
     unfolding all-rows rows-before
-    summed = rw (← c .paths-read) (whole-sum paths (λ j. within rows (pos (rows-in bytes j))) (rows-in bytes) v is end)
+    summed = rw (← c .paths-read) (whole-sum paths (m-fits bytes) (rows-in bytes) v is end)
 
     -- the formula stays small
     pub rows-small : v .sum * (4 * n + 4) ≤ 512 * 68
     rows-small =
-        let sum = whole-small paths (λ j. within rows (pos (rows-in bytes j))) (rows-in bytes) v is end 64 (λ j below fit. rows-most (rows-in bytes j) fit) in
+        let sum = whole-small paths (m-fits bytes) (rows-in bytes) v is end 64 (λ j below fit. rows-most (rows-in bytes j) fit) in
         let few : v .sum ≤ 512 = omega (arith, sum, few-paths) in
         let wide : 4 * n + 4 ≤ 68 = omega (arith, small-n) in
         mul-le-mul few wide

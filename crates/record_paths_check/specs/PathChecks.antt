@@ -10,11 +10,11 @@ use Rattle.endian.specs.Numbers.{littleAt}
 use Rattle.refusal.specs.declared.Fault.{Fault}
 use Rattle.refusal.specs.Places.{before-failing}
 use Rattle.refusal.specs.Tests.{done, first}
-use Rattle.record.specs.Ranges.{variables, within}
+use Rattle.record.specs.Ranges.{variables, rows, within}
 use Rattle.record_check.specs.Checks.{Framed}
-use Rattle.record_paths.specs.PathCertificates.{components-in}
+use Rattle.record_paths.specs.PathCertificates.{components-in, component-in}
 use Rattle.record_paths.specs.PathFields.{path-counts, component-counts, sum-of, bytes-alone}
-use Rattle.record_paths.specs.PathLoops.{variables-in, paths-in, sound-paths}
+use Rattle.record_paths.specs.PathLoops.{variables-in, paths-in, rows-in, sound-paths}
 use Rattle.record_paths_check.specs.declared.Walked.{Walked}
 
 -- a number and a place
@@ -28,6 +28,18 @@ ended at end = cond (ltb at end) (tells 6 at) (tells 0 0)
 -- a walk along paths up to the first at which a test fails: how many come before it, and the sum of what these have
 unfoldable pub walked : ℕ → (ℕ → Bool) → (ℕ → ℕ) → Walked
 walked paths holds has = record { paths = before-failing paths holds; sum = sum-of (before-failing paths holds) has }
+
+-- the m of path j is a count of rows
+abbrev pub m-fits : List ℕ → ℕ → Bool
+m-fits bytes j = within rows (pos (rows-in bytes j))
+
+-- the component number of path j exists
+abbrev pub component-there : ℕ → List ℕ → ℕ → Bool
+component-there components bytes j = ltb (component-in bytes j) components
+
+-- the multipliers of path j
+abbrev pub multipliers-of : List ℕ → List ℕ → ℕ → ℕ
+multipliers-of loopbytes bytes j = rows-in loopbytes j * (2 + component-in bytes j)
 
 -- a record of kind 5 that meets the tests up to its counts
 pub record Paths-counted (bytes : List ℕ) (n paths : ℕ) : Type 0 where

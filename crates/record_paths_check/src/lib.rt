@@ -3,18 +3,16 @@
 ghost use Prim.Native.Nat.{_+_, _*_, _≤_};
 ghost use mathlib.Core.Path.{_≡_};
 ghost use mathlib.Core.List.{_++_};
-ghost use lib.Dec.{ltb};
-ghost use lib.IntN.{pos};
 ghost use lib.ListN.{length, replicate};
 ghost use Rattle.refusal.specs.Faults.{fault-of};
 ghost use Rattle.refusal.specs.Tests.{done, first};
 ghost use Rattle.record.specs.Layouts.{multiplier};
-ghost use Rattle.record.specs.Ranges.{rows, within};
 ghost use Rattle.record_fields.specs.Runs.{fits, fault};
-ghost use Rattle.record_paths.specs.PathCertificates.{counted, component-in, component-fields, components-fields, sound-lexicographic};
+ghost use Rattle.record_paths.specs.PathCertificates.{counted, component-fields, components-fields, sound-lexicographic};
 ghost use Rattle.record_paths.specs.PathFields.{fall, bytes-alone};
 ghost use Rattle.record_paths.specs.PathLoops.{rows-in, sound-paths};
-ghost use Rattle.record_paths_check.specs.PathChecks.{tells, ended, walked, Paths-counted, Components-counted, Numbered};
+ghost use Rattle.record_paths_check.specs.PathChecks.{tells, ended, walked, m-fits, component-there, multipliers-of};
+ghost use Rattle.record_paths_check.specs.PathChecks.{Paths-counted, Components-counted, Numbered};
 use refusal::Fault;
 
 fn told(number: usize, place: usize) -> Fault
@@ -44,7 +42,7 @@ struct Walked {
 // The m of each path is a count of rows; the sum of them.
 fn rows_walked(bytes: &[u8], paths: usize) -> Walked
     requires { ⌜ (paths ≤ 8) × (10 + 2 * paths ≤ length (now bytes)) ⌝ }
-    ensures { λ r. ⌜ r ≡ walked paths (λ j. within rows (pos (rows-in (now (bytes .entry)) j))) (rows-in (now (bytes .entry))) ⌝ }
+    ensures { λ r. ⌜ r ≡ walked paths (m-fits (now (bytes .entry))) (rows-in (now (bytes .entry))) ⌝ }
 {
     let mut sum = 0;
     for j in 0..paths {
@@ -63,8 +61,8 @@ fn rows_walked(bytes: &[u8], paths: usize) -> Walked
 // The component number of each path exists; the multipliers of all its lists.
 fn lists_walked(loopbytes: &[u8], bytes: &[u8], paths: usize, components: usize) -> Walked
     requires { ⌜ Numbered (now loopbytes) (now bytes) paths ⌝ ∗ ⌜ components ≤ 8 ⌝ }
-    ensures { λ r. ⌜ r ≡ walked paths (λ j. ltb (component-in (now (bytes .entry)) j) components)
-        (λ j. rows-in (now (loopbytes .entry)) j * (2 + component-in (now (bytes .entry)) j)) ⌝ }
+    ensures { λ r. ⌜ r ≡ walked paths (component-there components (now (bytes .entry)))
+        (multipliers-of (now (loopbytes .entry)) (now (bytes .entry))) ⌝ }
 {
     let mut sum = 0;
     for j in 0..paths {

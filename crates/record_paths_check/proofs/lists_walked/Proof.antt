@@ -1,29 +1,21 @@
 -- `record_paths_check::lists_walked` meets its contract. Assumes nothing.
 use mathlib.Core.Path.{_≡_}
-use mathlib.Core.Bool.{Bool, true, false}
-use mathlib.Core.List.{List}
-use Prim.Native.Nat.{ℕ, _+_, _*_, _-_, _≤_, _<_}
+use mathlib.Core.Bool.{true, false}
+use Prim.Native.Nat.{_+_, _*_, _-_, _≤_, _<_}
 use native.Mathlib.Nat.{mul-le-mul, mul-le-mul-right}
 use native.Mathlib.Omega.{arith}
-use lib.Dec.{ltb}
 use borrow.Author.Tests.{lt-ltb, le-ltb, ltb-true}
 use Rattle.record_paths.specs.PathCertificates.{component-in}
 use Rattle.record_paths.specs.PathLoops.{rows-in}
 use Rattle.record_paths.proofs.PathsSound.{PathsSound, paths-sound}
+use Rattle.record_paths_check.specs.PathChecks.{component-there, multipliers-of}
 use Rattle.record_paths_check.proofs.PathWalks.{So-far, walk-start, walk-more, walk-small, walk-stops, walk-ends}
 use borrow.Author.Needs.{needs}
 use Rattle.record_paths_check.proofs.lists_walked.Statement.{statement}
 use Rattle.record_paths_check.proofs.lists_walked.Tie as tie
 
--- the component number of path j exists, and the multipliers of its lists
-abbrev there : List ℕ → ℕ → ℕ → Bool
-there bytes components j = ltb (component-in bytes j) components
-
-abbrev lists : List ℕ → List ℕ → ℕ → ℕ
-lists loopbytes bytes j = rows-in loopbytes j * (2 + component-in bytes j)
-
 abbrev Inv-loop : tie.InvT-loop
-Inv-loop loopbytes bytes paths components sum₀ j₀ sum j = So-far paths (there bytes components) (lists loopbytes bytes) j sum
+Inv-loop loopbytes bytes paths components sum₀ j₀ sum j = So-far paths (component-there components bytes) (multipliers-of loopbytes bytes) j sum
 
 abbrev μ-loop : tie.MeasureT-loop
 μ-loop loopbytes bytes paths components sum₀ j₀ sum j = paths - j
@@ -37,7 +29,7 @@ sound w = paths-sound (start w .args .loopbytes .now) (start w .pre .0 .loop-sou
 small : (w : tie.At-loop Inv-loop μ-loop) → w .loop .sum ≤ w .loop .j * 576
 small w =
     let a = start w .args in
-    walk-small (a .paths) (there (a .bytes .now) (a .components)) (lists (a .loopbytes .now) (a .bytes .now)) (w .loop .j) (w .loop .sum) (w .loop .inv) 576
+    walk-small (a .paths) (component-there (a .components) (a .bytes .now)) (multipliers-of (a .loopbytes .now) (a .bytes .now)) (w .loop .j) (w .loop .sum) (w .loop .inv) 576
     (λ i below fit.
     let early : component-in (a .bytes .now) i < a .components = ltb-true _ _ fit in
     let number : 2 + component-in (a .bytes .now) i ≤ 9 = omega (arith, start w .pre .1) in
@@ -69,8 +61,8 @@ returns c =
     let w = c .before .before .before in
     let a = start w .args in
     let read = c .before .u16-at .ensures .0 in
-    let out : ltb (component-in (a .bytes .now) (w .loop .j)) (a .components) ≡ false = rw (← read) (le-ltb _ _ (c .if1 .taken)) in
-    walk-stops (a .paths) (there (a .bytes .now) (a .components)) (lists (a .loopbytes .now) (a .bytes .now)) (w .loop .j) (w .loop .sum) (w .loop .inv)
+    let out : component-there (a .components) (a .bytes .now) (w .loop .j) ≡ false = rw (← read) (le-ltb _ _ (c .if1 .taken)) in
+    walk-stops (a .paths) (component-there (a .components) (a .bytes .now)) (multipliers-of (a .loopbytes .now) (a .bytes .now)) (w .loop .j) (w .loop .sum) (w .loop .inv)
     (c .before .before .loop-test .taken) out
 
 mul-u16-at-2 : tie.Need-mul-u16-at-2 Inv-loop μ-loop
@@ -107,16 +99,16 @@ loop-again c =
     let w = c .before .before .before .before in
     let a = start w .args in
     let read = c .before .before .u16-at .ensures .0 in
-    let fit : ltb (component-in (a .bytes .now) (w .loop .j)) (a .components) ≡ true = rw (← read) (lt-ltb _ _ (c .before .if1 .left)) in
+    let fit : component-there (a .components) (a .bytes .now) (w .loop .j) ≡ true = rw (← read) (lt-ltb _ _ (c .before .if1 .left)) in
     rw (read, c .u16-at2 .ensures .0)
-    (walk-more (a .paths) (there (a .bytes .now) (a .components)) (lists (a .loopbytes .now) (a .bytes .now)) (w .loop .j) (w .loop .sum) (w .loop .inv)
+    (walk-more (a .paths) (component-there (a .components) (a .bytes .now)) (multipliers-of (a .loopbytes .now) (a .bytes .now)) (w .loop .j) (w .loop .sum) (w .loop .inv)
     (c .before .before .before .loop-test .taken) fit)
 
 returns-2 : tie.Need-returns-2 Inv-loop μ-loop
 returns-2 c =
     let w = c .before in
     let a = start w .args in
-    walk-ends (a .paths) (there (a .bytes .now) (a .components)) (lists (a .loopbytes .now) (a .bytes .now)) (w .loop .j) (w .loop .sum) (w .loop .inv) (omega arith)
+    walk-ends (a .paths) (component-there (a .components) (a .bytes .now)) (multipliers-of (a .loopbytes .now) (a .bytes .now)) (w .loop .j) (w .loop .sum) (w .loop .inv) (omega arith)
 
 pub lists-walked-spec : {M : Type 1} → statement M
 lists-walked-spec =

@@ -4,18 +4,17 @@ use mathlib.Core.Bool.{true, false}
 use Prim.Native.Nat.{_*_, _-_, _≤_}
 use native.Mathlib.Nat.{mul-le-mul-right}
 use native.Mathlib.Omega.{arith}
-use lib.IntN.{pos}
 use borrow.Author.Tests.{not-true, not-false}
-use Rattle.record.specs.Ranges.{rows, within}
 use Rattle.record.proofs.CountLimits.{rows-most}
 use Rattle.record_paths.specs.PathLoops.{rows-in}
+use Rattle.record_paths_check.specs.PathChecks.{m-fits}
 use Rattle.record_paths_check.proofs.PathWalks.{So-far, walk-start, walk-more, walk-small, walk-stops, walk-ends}
 use borrow.Author.Needs.{needs}
 use Rattle.record_paths_check.proofs.rows_walked.Statement.{statement}
 use Rattle.record_paths_check.proofs.rows_walked.Tie as tie
 
 abbrev Inv-loop : tie.InvT-loop
-Inv-loop bytes paths sum₀ j₀ sum j = So-far paths (λ i. within rows (pos (rows-in bytes i))) (rows-in bytes) j sum
+Inv-loop bytes paths sum₀ j₀ sum j = So-far paths (m-fits bytes) (rows-in bytes) j sum
 
 abbrev μ-loop : tie.MeasureT-loop
 μ-loop bytes paths sum₀ j₀ sum j = paths - j
@@ -26,7 +25,7 @@ start w = w .before .before
 small : (w : tie.At-loop Inv-loop μ-loop) → w .loop .sum ≤ w .loop .j * 64
 small w =
     let a = start w .args in
-    walk-small (a .paths) (λ i. within rows (pos (rows-in (a .bytes .now) i))) (rows-in (a .bytes .now)) (w .loop .j) (w .loop .sum) (w .loop .inv) 64
+    walk-small (a .paths) (m-fits (a .bytes .now)) (rows-in (a .bytes .now)) (w .loop .j) (w .loop .sum) (w .loop .inv) 64
     (λ i below fit. rows-most (rows-in (a .bytes .now) i) fit)
 
 loop-holds : tie.Need-loop-holds Inv-loop μ-loop
@@ -50,9 +49,9 @@ returns c =
     let w = c .before .before .before .before in
     let a = start w .args in
     let read = c .before .before .u16-at .ensures .0 in
-    let out : within rows (pos (rows-in (a .bytes .now) (w .loop .j))) ≡ false
+    let out : m-fits (a .bytes .now) (w .loop .j) ≡ false
     = rw (← read) (sym (c .before .rows-fit .ensures) ∙ not-true _ (c .if1 .taken)) in
-    walk-stops (a .paths) (λ i. within rows (pos (rows-in (a .bytes .now) i))) (rows-in (a .bytes .now)) (w .loop .j) (w .loop .sum) (w .loop .inv)
+    walk-stops (a .paths) (m-fits (a .bytes .now)) (rows-in (a .bytes .now)) (w .loop .j) (w .loop .sum) (w .loop .inv)
     (c .before .before .before .loop-test .taken) out
 
 add-sum : tie.Need-add-sum Inv-loop μ-loop
@@ -73,17 +72,17 @@ loop-again c =
     let w = c .before .before .before .before in
     let a = start w .args in
     let read = c .before .before .u16-at .ensures .0 in
-    let fit : within rows (pos (rows-in (a .bytes .now) (w .loop .j))) ≡ true
+    let fit : m-fits (a .bytes .now) (w .loop .j) ≡ true
     = rw (← read) (sym (c .before .rows-fit .ensures) ∙ not-false _ (c .if1 .left)) in
     rw read
-    (walk-more (a .paths) (λ i. within rows (pos (rows-in (a .bytes .now) i))) (rows-in (a .bytes .now)) (w .loop .j) (w .loop .sum) (w .loop .inv)
+    (walk-more (a .paths) (m-fits (a .bytes .now)) (rows-in (a .bytes .now)) (w .loop .j) (w .loop .sum) (w .loop .inv)
     (c .before .before .before .loop-test .taken) fit)
 
 returns-2 : tie.Need-returns-2 Inv-loop μ-loop
 returns-2 c =
     let w = c .before in
     let a = start w .args in
-    walk-ends (a .paths) (λ i. within rows (pos (rows-in (a .bytes .now) i))) (rows-in (a .bytes .now)) (w .loop .j) (w .loop .sum) (w .loop .inv) (omega arith)
+    walk-ends (a .paths) (m-fits (a .bytes .now)) (rows-in (a .bytes .now)) (w .loop .j) (w .loop .sum) (w .loop .inv) (omega arith)
 
 pub rows-walked-spec : {M : Type 1} → statement M
 rows-walked-spec =
