@@ -37,7 +37,7 @@ use Rattle.verdict_paths.proofs.PathDemands.{accepted-ends, shown-ends,
 use Rattle.verdict_paths.proofs.PathDemands.{frame-refused}
 use Rattle.verdict_paths.proofs.PathsAccepted.{Pair-sound, Lexicographic-accepted, paths-accepted-exactly-when, accepted-paths-show}
 use Rattle.verdict_paths.proofs.PathsAccepted.{refused-paths-show-nothing}
-use Rattle.verdict_paths.proofs.PathsInRange.{sound-well-formed}
+use Rattle.verdict_paths.proofs.PathsInRange.{sound-branches, sound-argument, sound-well-formed}
 use Rattle.verdict_paths.proofs.PathsInValues.{paths-in-values, proposal-accepted, paths-told-in-values}
 use Rattle.verdict_paths.proofs.PathsToldExactly.{Paths-fail, told-exactly-pairs, told-exactly-paths, paths-never-7, judged-never-8}
 
@@ -214,18 +214,12 @@ counters-hold =
     paths-in-values two-counters two-counters-argument counters-in counters-argument-in []
     .0 (ap (λ (a : Verdict). a .number) (counters-accepted-in-values []))
 
+-- ping-pong is within the limits as its bytes are sound
 ping-pong-in : Branches-in ping-pong
-unfolding ping-pong variables rows entries right-sides path-counts _to_ either-way Each
-ping-pong-in = record { n-in = search; count-in = search; each = search }
+ping-pong-in = rw (held-as-paths .6) at (sound-branches to-and-fro to-and-fro-sound)
 
 ping-pong-argument-in : Argument-in ping-pong ping-pong-argument
-unfolding ping-pong ping-pong-argument multipliers directions right-sides falls component-counts _to_ either-way Each
-ping-pong-argument-in = record { count-in = search; components-in = search; parts-counted = refl; parts-in = each-part }
-  where
-    each-part : Throughout 2 (λ j. Part-in 2 (length (rows-of ping-pong j)) (part-at ping-pong-argument j))
-    each-part zero below = search
-    each-part (suc zero) below = search
-    each-part (suc (suc j)) below = absurd (omega arith)
+ping-pong-argument-in = rw (held-as-paths .6, held-as-paths .7) at (sound-argument to-and-fro to-and-fro-sound)
 
 pub ping-pong-told-in-values : (lent : List ℤ)
     → judged (branches-bytes ping-pong) (argument-bytes ping-pong ping-pong-argument) lent ≡ refusal-of 2 53 1
