@@ -4,17 +4,21 @@
 use mathlib.Core.Path.{_≡_, refl, sym, ap, _∙_}
 use mathlib.Core.Bool.{true, false}
 use mathlib.Core.List.{List, [], _∷_}
-use Prim.Native.Nat.{ℕ}
+use Prim.Native.Nat.{ℕ, zero, suc}
 use native.Mathlib.Omega.{arith}
 use lib.IntN.{ℤ, pos}
 use lib.ListN.{length, take}
+use Rattle.refusal.specs.Places.{Throughout}
 use Rattle.refusal.specs.Tests.{refused}
+use Rattle.record.specs.Ranges.{_to_, either-way, variables, rows, entries, right-sides, multipliers, directions}
 use Rattle.record.specs.Samples as Records
 use Rattle.record_paths.specs.PathCertificates.{counted}
-use Rattle.theory_paths.specs.Lexicographics.{WellFormed, Ends}
+use Rattle.record_paths.specs.PathFields.{path-counts, component-counts, falls}
+use Rattle.theory_paths.specs.Lexicographics.{part-at, LexicographicHolds, WellFormed, Ends}
 use Rattle.theory_paths.specs.PathFails.{LexicographicFails}
 use Rattle.theory_paths.specs.PathSamples.{two-counters, two-counters-argument, ping-pong, ping-pong-argument}
 use Rattle.theory_paths.specs.PathTable as Rows
+use Rattle.theory_paths.specs.Paths.{rows-of}
 use Rattle.theory_paths.proofs.PathDecisions.{lexicographic-decided, told-exactly-lexicographic}
 use Rattle.theory_paths.proofs.PathSampleTheorems.{one-by-one-is-wrong}
 use Rattle.verdict.specs.Judging.{judges, rank-after, judge-of}
@@ -22,16 +26,19 @@ use Rattle.verdict.specs.Samples.{P, S1}
 use Rattle.verdict.specs.Stages.{shows, refusal-of}
 use Rattle.verdict.specs.declared.Outcome.the-variants.{Nothing, Lexicographic}
 use Rattle.verdict.specs.declared.Verdict.{Verdict}
+use Rattle.whole.specs.Sums.{Each}
 use Rattle.verdict_paths.specs.JudgingByLoop.{of-paths, judged, rank-judged}
 use Rattle.verdict_paths.specs.JudgingComputing.{computing}
 use Rattle.verdict_paths.specs.PathContents.{branches-in, lexicographic-in}
 use Rattle.verdict_paths.specs.PathJudging.{Path-pair, path-judges}
+use Rattle.verdict_paths.specs.PathValues.{Branches-in, Part-in, Argument-in, branches-bytes, argument-bytes, making}
 use Rattle.verdict_paths.specs.PathSampleBytes.{two-counters-bytes, two-counters-argument-bytes, ping-pong-bytes, ping-pong-argument-bytes}
 use Rattle.verdict_paths.proofs.PathDemands.{accepted-ends, shown-ends, paths-leave-list, by-rows, accepted-by-rows, Framed, only-together}
 use Rattle.verdict_paths.proofs.PathDemands.{frame-refused}
 use Rattle.verdict_paths.proofs.PathsAccepted.{Pair-sound, Lexicographic-accepted, paths-accepted-exactly-when, accepted-paths-show}
 use Rattle.verdict_paths.proofs.PathsAccepted.{refused-paths-show-nothing}
-use Rattle.verdict_paths.proofs.PathsInRange.{sound-well-formed}
+use Rattle.verdict_paths.proofs.PathsInRange.{sound-branches, sound-argument, sound-well-formed}
+use Rattle.verdict_paths.proofs.PathsInValues.{paths-in-values, proposal-accepted, paths-told-in-values}
 use Rattle.verdict_paths.proofs.PathsToldExactly.{Paths-fail, told-exactly-pairs, told-exactly-paths, paths-never-7, judged-never-8}
 
 abbrev pub counters : Path-pair
@@ -171,3 +178,53 @@ broken-off certificate lent = (
   frame-refused (take 97 two-counters-bytes) certificate lent 1 97 refl,
   frame-refused (take 45 P) certificate lent 1 45 refl,
 )
+
+-- ---- in values: the samples are within the limits, the bytes made of them are those written out, and the statements in values reach them
+
+pub made-as-written :
+    (branches-bytes two-counters ≡ two-counters-bytes)
+    × (argument-bytes two-counters two-counters-argument ≡ two-counters-argument-bytes)
+    × (branches-bytes ping-pong ≡ ping-pong-bytes)
+    × (argument-bytes ping-pong ping-pong-argument ≡ ping-pong-argument-bytes)
+unfolding computing Rows.computing making two-counters-bytes two-counters-argument-bytes ping-pong-bytes ping-pong-argument-bytes
+made-as-written = (refl, refl, refl, refl)
+
+counters-in : Branches-in two-counters
+unfolding two-counters variables rows entries right-sides path-counts _to_ either-way Each
+counters-in = record { n-in = search; count-in = search; each = search }
+
+counters-argument-in : Argument-in two-counters two-counters-argument
+unfolding two-counters two-counters-argument multipliers directions right-sides falls component-counts _to_ either-way Each
+counters-argument-in = record { count-in = search; components-in = search; parts-counted = refl; parts-in = each-part }
+  where
+    each-part : Throughout 2 (λ j. Part-in 2 (length (rows-of two-counters j)) (part-at two-counters-argument j))
+    each-part zero below = search
+    each-part (suc zero) below = search
+    each-part (suc (suc j)) below = absurd (omega arith)
+
+pub counters-accepted-in-values : (lent : List ℤ)
+    → judged (branches-bytes two-counters) (argument-bytes two-counters two-counters-argument) lent ≡ shows Lexicographic
+unfolding Rows.computing
+counters-accepted-in-values lent =
+    proposal-accepted two-counters two-counters-argument counters-in counters-argument-in lent
+    (lexicographic-decided two-counters two-counters-argument .0 refl)
+
+pub counters-hold : LexicographicHolds two-counters two-counters-argument
+counters-hold =
+    paths-in-values two-counters two-counters-argument counters-in counters-argument-in []
+    .0 (ap (λ (a : Verdict). a .number) (counters-accepted-in-values []))
+
+-- ping-pong is within the limits as its bytes are sound
+ping-pong-in : Branches-in ping-pong
+ping-pong-in = rw (held-as-paths .6) at (sound-branches to-and-fro to-and-fro-sound)
+
+ping-pong-argument-in : Argument-in ping-pong ping-pong-argument
+ping-pong-argument-in = rw (held-as-paths .6, held-as-paths .7) at (sound-argument to-and-fro to-and-fro-sound)
+
+pub ping-pong-told-in-values : (lent : List ℤ)
+    → judged (branches-bytes ping-pong) (argument-bytes ping-pong ping-pong-argument) lent ≡ refusal-of 2 53 1
+ping-pong-told-in-values lent = paths-told-in-values ping-pong ping-pong-argument ping-pong-in ping-pong-argument-in lent 53 1 .1 to-and-fro-fails
+
+pub ping-pong-fails-in-values : LexicographicFails ping-pong ping-pong-argument 53 1
+ping-pong-fails-in-values =
+    paths-told-in-values ping-pong ping-pong-argument ping-pong-in ping-pong-argument-in [] 53 1 .0 (ping-pong-told-in-values [])

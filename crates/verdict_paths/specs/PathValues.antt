@@ -7,7 +7,7 @@ use lib.IntN.{ℤ, pos}
 use lib.ListN.{length, replicate}
 use Rattle.endian.specs.Numbers.{digits}
 use Rattle.refusal.specs.Places.{Throughout}
-use Rattle.record.specs.Contents.{In, List-in, Row-in, rows-values}
+use Rattle.record.specs.Contents.{In, List-in, Row-in, row-values, rows-values}
 use Rattle.record.specs.Fields.{bytesOf}
 use Rattle.record.specs.Layouts.{multiplier, rowsOf}
 use Rattle.record.specs.Ranges.{variables, rows, right-sides, multipliers, directions}
@@ -110,3 +110,8 @@ argument-bytes loop c =
     ++ (joined (λ part. count-bytes (part .component)) (c .parts)
     ++ (joined (component-bytes (loop .variables)) (c .components)
     ++ joined part-bytes (c .parts))))
+
+-- opens all that makes the bytes
+unfoldable pub making : Unit {0}
+unfolding joined framed path-bytes branches-bytes component-bytes list-bytes part-bytes argument-bytes rows-values row-values bytesOf
+making = tt
