@@ -11,32 +11,34 @@
  * Lent lists. A call that is done fills the first places of the list or room it was lent, and the rest stays. A refused
  * call changes nothing. No call keeps a pointer or touches anything but its lists, so calls may run at once.
  *
- * Ranges. Variables n: 1 to 16. Loop rows m and stem rows ms: 0 to 64 each. Right sides b, d and s0: 2,000,000,000
- * either way. Entries of a state: 1,000,000 either way. docs/FORMAT.md has those of the other values. No start or fall
- * is beyond 7,800,000,000,000,000 either way.
+ * Ranges. Variables n: 1 to 16. Loop rows m (of each path) and stem rows ms: 0 to 64 each. Paths of a loop: 1 to 8, and
+ * components of an argument for them too. Right sides b, d and s0: 2,000,000,000 either way. Entries of a state:
+ * 1,000,000 either way. docs/FORMAT.md has those of the other values. No start or fall is beyond 7,800,000,000,000,000
+ * either way.
  *
  * Refusals. Every answer starts with a number and a place:
  *
- *   number                meaning                                                  place
- *   CUSHIEDOO_DONE     0  done                                                     0
- *   CUSHIEDOO_ENDS     1  bytes end early                                          number of bytes
- *   CUSHIEDOO_AFTER    2  bytes after the record                                   4 + L
- *   CUSHIEDOO_LENGTH   3  L is below 2, too small for the counts, or not the       0
- *                         stated L
- *   CUSHIEDOO_KIND     4  kind not wanted here                                     4
- *   CUSHIEDOO_COUNT    5  count out of range                                       its first byte; 0 if n or m came as
+ *   number                  meaning                                                place
+ *   CUSHIEDOO_DONE       0  done                                                   0
+ *   CUSHIEDOO_ENDS       1  bytes end early                                        number of bytes
+ *   CUSHIEDOO_AFTER      2  bytes after the record                                 4 + L
+ *   CUSHIEDOO_LENGTH     3  L is below 2, too small for the counts, or not the     0
+ *                           stated L
+ *   CUSHIEDOO_KIND       4  kind not wanted here                                   4
+ *   CUSHIEDOO_COUNT      5  count out of range                                     its first byte; 0 if n or m came as
  *                                                                                  an argument for kinds 2 to 4
- *   CUSHIEDOO_VALUE    6  value out of range, the first in layout order            its first byte
- *   CUSHIEDOO_ROOM     7  room too small                                           room needed
- *   CUSHIEDOO_FAILS    8  no longer given: 21 to 46 say which condition fails
- *   CUSHIEDOO_STATE    9  state entry out of range, the first                      its index, from 0
- *   CUSHIEDOO_ENTRIES 10  state doesn't have n entries                             number of entries
- *   CUSHIEDOO_OUTSIDE 11  lasso state outside the invariant                        0
- *   CUSHIEDOO_LIST    12  value list of the wrong length                           length needed (1 if ms is absent)
+ *   CUSHIEDOO_VALUE      6  value out of range, the first in layout order          its first byte
+ *   CUSHIEDOO_ROOM       7  room too small                                         room needed
+ *   CUSHIEDOO_FAILS      8  no longer given: 21 to 53 say which condition fails
+ *   CUSHIEDOO_STATE      9  state entry out of range, the first                    its index, from 0
+ *   CUSHIEDOO_ENTRIES   10  state doesn't have n entries                           number of entries
+ *   CUSHIEDOO_OUTSIDE   11  lasso state outside the invariant                      0
+ *   CUSHIEDOO_LIST      12  value list of the wrong length                         length needed (1 if ms is absent)
+ *   CUSHIEDOO_COMPONENT 14  component number that doesn't exist, the first         its first byte
  *
- * Conditions. A certificate that fails one is refused with the condition's number. Columns and rows count from 0; a
- * column stands for a variable. All places of one condition come before the next condition. The loop's rows are A, A',
- * b, those of a lasso's stem B, B', d.
+ * Conditions. A certificate that fails one is refused with the condition's number. Columns, rows and paths count from
+ * 0; a column stands for a variable. All places of one condition come before the next condition, but 51 to 53 are told
+ * path by path. The loop's rows are A, A', b, those of a lasso's stem B, B', d. A component has r, a start and a fall.
  *
  *   of         number  meaning                                                     place
  *   ranking        21  YA' is not 0                                                the first such column
@@ -52,6 +54,12 @@
  *                  45  HA' is not -k2 s                                            the first such column
  *                  46  Hb + h0 s0 is above k2 s0: the invariant is not kept        0
  *                      and then 21 to 24, over the loop with the row -s.x <= s0 added at the end
+ *   lexicographic  51  bounded: the weighted rows of a path do not sum to -r.x of  the first such path
+ *                      its component, or their right sides to more than -start
+ *                  52  ranking: they do not sum to -r.x + r.x' of its component,   the first such path
+ *                      or their right sides to more than -fall
+ *                  53  unaffecting: they do not sum to -r.x + r.x' of an earlier   the first such path
+ *                      component, or their right sides to more than 0
  *
  * Places count bytes from the record's first byte unless the table says otherwise. On a refusal all other fields of the
  * answer are 0, but for the record that a verdict speaks of.
@@ -80,22 +88,24 @@ enum {
     CUSHIEDOO_STATE = 9,
     CUSHIEDOO_ENTRIES = 10,
     CUSHIEDOO_OUTSIDE = 11,
-    CUSHIEDOO_LIST = 12
+    CUSHIEDOO_LIST = 12,
+    CUSHIEDOO_COMPONENT = 14
 };
 
 /* The record that a verdict speaks of. */
 enum {
     CUSHIEDOO_NEITHER = 0,    /* done, 7, 9 and 10 */
     CUSHIEDOO_LOOP = 1,       /* 1 to 6 in the loop record */
-    CUSHIEDOO_CERTIFICATE = 2 /* 1 to 6 in the certificate; 11; a condition's number */
+    CUSHIEDOO_CERTIFICATE = 2 /* 1 to 6 and 14 in the certificate; 11; a condition's number */
 };
 
 /* The outcome of a verdict: the kind of the certificate that gave it. */
 enum {
-    CUSHIEDOO_NOTHING = 0,   /* refused */
-    CUSHIEDOO_RANKING = 2,   /* with start and fall */
-    CUSHIEDOO_EXCLUSION = 3, /* with a grade; it does not say that the loop runs for ever */
-    CUSHIEDOO_LASSO = 4      /* with start and fall */
+    CUSHIEDOO_NOTHING = 0,      /* refused */
+    CUSHIEDOO_RANKING = 2,      /* with start and fall */
+    CUSHIEDOO_EXCLUSION = 3,    /* with a grade; it does not say that the loop runs for ever */
+    CUSHIEDOO_LASSO = 4,        /* with start and fall */
+    CUSHIEDOO_LEXICOGRAPHIC = 6 /* no run through the paths goes on for ever; no start, fall or grade */
 };
 
 /*
@@ -131,7 +141,7 @@ typedef struct {
     uint64_t place;
     uint64_t record;  /* the record it speaks of */
     uint64_t outcome; /* what was accepted */
-    /* Of a ranking, for every step; of a lasso, for every step from a state that meets its invariant: */
+    /* Of a ranking, for every step; of a lasso, for every step from a state that meets its invariant; else 0: */
     int64_t start;  /* r.x is at least this before the step */
     int64_t fall;   /* r.x falls by at least this in the step */
     uint64_t grade; /* of an exclusion */
@@ -165,8 +175,8 @@ cushiedoo_reading cushiedoo_read_certificate(const uint8_t *bytes, size_t bytes_
                                              int64_t *values, size_t values_len);
 
 /*
- * Writes a record of any kind from its values, which are those that a reading gives. Refusals: 4, 5 (n, m), 12 (ms is
- * absent), 5 (ms), 12, 6, 7, in this order. Places of 4, 5 and 6 are those in the record that would be written.
+ * Writes a record of kinds 1 to 4 from its values, which are those that a reading gives. Refusals: 4, 5 (n, m), 12 (ms
+ * is absent), 5 (ms), 12, 6, 7, in this order. Places of 4, 5 and 6 are those in the record that would be written.
  */
 cushiedoo_writing cushiedoo_write_record(uint64_t kind, uint64_t n, uint64_t m, const int64_t *values,
                                          size_t values_len, uint8_t *room, size_t room_len);
@@ -183,14 +193,19 @@ cushiedoo_writing cushiedoo_sheet(const uint8_t *input, size_t input_len, uint8_
  * Judges a certificate for a loop. On acceptance of a ranking or a lasso the first n numbers of the rank list are r; an
  * exclusion needs and touches none. Refusals: those of the loop record, those of the certificate, 7 (kinds 2 and 4
  * only), those of the conditions, in this order.
+ *
+ * A loop of several paths (kind 5) and a lexicographic argument (kind 6) are judged only together: with another record
+ * either gives 4 of the certificate. They need and touch no rank list. Their counts stand in two places, and 3 is told
+ * where L can't hold the next of them: of the loop 3, 5 (n, paths), 3, 5 (each m), 3, 6; of the argument 3, 5
+ * (components), 3, 14 (each path's component number), 3, 6.
  */
 cushiedoo_verdict cushiedoo_judge(const uint8_t *loop, size_t loop_len, const uint8_t *certificate,
                                   size_t certificate_len, int64_t *rank, size_t rank_len);
 
 /*
  * Judges a ranking or a lasso and tells how many steps a run from the state can take at most. For a lasso that is
- * promised for runs whose first state follows a step of the stem. Refusals: those of the loop record, those of the
- * certificate (kind 3 gives 4), 10, 9, those of the conditions, 11, in this order.
+ * promised for runs whose first state follows a step of the stem. Refusals: those of the loop record (kind 5 gives 4),
+ * those of the certificate (kinds 3 and 6 give 4), 10, 9, those of the conditions, 11, in this order.
  */
 cushiedoo_bounded cushiedoo_bound(const uint8_t *loop, size_t loop_len, const uint8_t *certificate,
                                   size_t certificate_len, const int64_t *state, size_t state_len);

@@ -102,5 +102,5 @@ part "exchanges, none left out" 1 exchanges
 part "c example" 0 c_example
 part "rust wrapper" 0 rust_wrapper
 part "second opinion, the paper's samples" 0 second_opinion_samples
-part "second opinion, $cases generated cases" 12 second_opinion
+part "second opinion, $cases generated cases" 15 second_opinion
 [ "$failed" -eq 0 ]

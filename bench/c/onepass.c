@@ -8,7 +8,7 @@
 
 #include "cushiedoo.h"
 
-enum { MOST_VARIABLES = 16, MOST_ROWS = 64 };
+enum { MOST_VARIABLES = 16, MOST_ROWS = 64, MOST_PATHS = 8, MOST_COMPONENTS = 8 };
 
 /* The largest b, d and s0, and the largest entry of a state, either way. */
 static const int64_t MOST_RIGHT = 2000000000, MOST_STATE = 1000000;
@@ -28,6 +28,8 @@ static inline int right_bad(int64_t right) { return (uint64_t)(right + MOST_RIGH
 static inline int direction_bad(int64_t value) { return (uint64_t)(value + 60000) > 120000; }
 
 static inline int multiplier_bad(int64_t value) { return value > 60000; }
+
+static inline int fall_bad(int64_t value) { return value < 1 || value > 1000000; }
 
 static inline int scale_bad(int64_t value) { return value < 1 || value > 60000; }
 
@@ -408,14 +410,147 @@ static void pass_lasso(found *told, const uint8_t *loop, uint64_t m, const uint8
     conclude(told, &totals);
 }
 
+/* m of a path, and the number of its component, straight from the counts. */
+static inline uint64_t rows_of(const uint8_t *loop, uint64_t path) { return u16_at(loop + 10 + 2 * path); }
+
+static inline uint64_t component_of(const uint8_t *certificate, uint64_t path)
+{
+    return u16_at(certificate + 8 + 2 * path);
+}
+
+/* The tests of a loop of several paths up to its rows; tells n, the paths and all rows. */
+static fault paths_frame(const uint8_t *bytes, size_t len, uint64_t *n, uint64_t *paths, uint64_t *rows)
+{
+    fault framed = frame(bytes, len);
+    if (framed.number) return framed;
+    if (len < 10) return fault_of(3, 0);
+    *n = u16_at(bytes + 6);
+    *paths = u16_at(bytes + 8);
+    if (*n < 1 || *n > MOST_VARIABLES) return fault_of(5, 6);
+    if (*paths < 1 || *paths > MOST_PATHS) return fault_of(5, 8);
+    if (len < 10 + 2 * *paths) return fault_of(3, 0);
+    *rows = 0;
+    for (uint64_t path = 0; path < *paths; path++) {
+        if (rows_of(bytes, path) > MOST_ROWS) return fault_of(5, 10 + 2 * path);
+        *rows += rows_of(bytes, path);
+    }
+    return len == 10 + 2 * *paths + *rows * (4 * *n + 4) ? none : fault_of(3, 0);
+}
+
+/* The tests of a lexicographic argument up to its components. */
+static fault argument_frame(const uint8_t *bytes, size_t len, const uint8_t *loop, uint64_t n, uint64_t paths)
+{
+    fault framed = frame(bytes, len);
+    if (framed.number) return framed;
+    if (u16_at(bytes + 4) != CUSHIEDOO_LEXICOGRAPHIC) return fault_of(4, 4);
+    if (len < 8) return fault_of(3, 0);
+    uint64_t components = u16_at(bytes + 6), multipliers = 0;
+    if (components < 1 || components > MOST_COMPONENTS) return fault_of(5, 6);
+    if (len < 8 + 2 * paths) return fault_of(3, 0);
+    for (uint64_t path = 0; path < paths; path++) {
+        if (component_of(bytes, path) >= components) return fault_of(14, 8 + 2 * path);
+        multipliers += rows_of(loop, path) * (2 + component_of(bytes, path));
+    }
+    return len == 8 + 2 * paths + 4 * components * (n + 2) + 2 * multipliers ? none : fault_of(3, 0);
+}
+
+/* The first number of the components, or the first multiplier behind them, that is out of range. */
+static fault argument_fault(const uint8_t *bytes, size_t len, uint64_t n, uint64_t paths)
+{
+    uint64_t place = 8 + 2 * paths;
+    for (uint64_t i = 0; i < u16_at(bytes + 6); i++, place += 8) {
+        for (uint64_t j = 0; j < n; j++, place += 4)
+            if (direction_bad(i32_at(bytes + place))) return fault_of(6, place);
+        if (right_bad(i32_at(bytes + place))) return fault_of(6, place);
+        if (fall_bad(i32_at(bytes + place + 4))) return fault_of(6, place + 4);
+    }
+    return multiplier_fault(bytes, place, (len - place) / 2);
+}
+
+/* Adds one row, with its weight in each of a path's lists of m weights, to the totals of that list. */
+static inline int add_path_row(part_totals *totals, const uint8_t *row, uint64_t n, const uint8_t *weights, uint64_t m,
+                               uint64_t lists)
+{
+    int64_t right = i32_at(row + 4 * n);
+    int bad = right_bad(right);
+    for (uint64_t j = 0; j < 2 * n; j++) bad |= entry_bad(i16_at(row + 2 * j));
+    for (uint64_t k = 0; k < lists; k++, totals++, weights += 2 * m) {
+        int64_t weight = u16_at(weights);
+        for (uint64_t j = 0; j < n; j++) {
+            totals->now[j] += weight * i16_at(row + 2 * j);
+            totals->next[j] += weight * i16_at(row + 2 * n + 2 * j);
+        }
+        totals->right += weight * right;
+    }
+    return bad;
+}
+
+/* Whether the totals are -r and next times r, and at most the limit. */
+static bool weighs(const part_totals *totals, const uint8_t *r, uint64_t n, int64_t next, int64_t limit)
+{
+    int64_t any = 0;
+    for (uint64_t j = 0; j < n; j++) {
+        int64_t entry = i32_at(r + 4 * j);
+        any |= (totals->now[j] + entry) | (totals->next[j] - next * entry);
+    }
+    return !any && totals->right <= limit;
+}
+
+/* The first of a path's conditions that fails: bounded, ranking, and unaffecting for each earlier component. */
+static fault path_fault(const part_totals *totals, const uint8_t *components, uint64_t n, uint64_t own, uint64_t path)
+{
+    uint64_t width = 4 * n + 8;
+    const uint8_t *r = components + own * width;
+    if (!weighs(totals, r, n, 0, -i32_at(r + 4 * n))) return fault_of(51, path);
+    if (!weighs(totals + 1, r, n, 1, -i32_at(r + 4 * n + 4))) return fault_of(52, path);
+    for (uint64_t i = 0; i < own; i++)
+        if (!weighs(totals + 2 + i, components + i * width, n, 1, 0)) return fault_of(53, path);
+    return none;
+}
+
+static void pass_paths(found *told, const uint8_t *loop, size_t loop_len, const uint8_t *certificate,
+                       size_t certificate_len)
+{
+    uint64_t paths = 0, rows = 0;
+    told->kind = CUSHIEDOO_LEXICOGRAPHIC;
+    told->loop = paths_frame(loop, loop_len, &told->n, &paths, &rows);
+    if (told->loop.number) return;
+    uint64_t n = told->n, width = 4 * n + 4, place = 10 + 2 * paths;
+    told->certificate = argument_frame(certificate, certificate_len, loop, n, paths);
+    if (told->certificate.number) {
+        told->loop = rows_fault(loop, place, n, rows);
+        return;
+    }
+    const uint8_t *components = certificate + 8 + 2 * paths;
+    const uint8_t *weights = components + u16_at(certificate + 6) * (4 * n + 8);
+    part_totals totals[2 + MOST_COMPONENTS - 1];
+    for (uint64_t path = 0; path < paths; path++) {
+        uint64_t m = rows_of(loop, path), own = component_of(certificate, path), lists = 2 + own;
+        if (told->condition.number) lists = 0;
+        for (uint64_t k = 0; k < lists; k++) clear_part(totals + k, n);
+        for (uint64_t i = 0; i < m; i++, place += width)
+            if (add_path_row(totals, loop + place, n, weights + 2 * i, m, lists)) {
+                told->loop = row_fault(loop + place, n, place);
+                return;
+            }
+        if (lists) told->condition = path_fault(totals, components, n, own, path);
+        weights += 2 * m * (2 + own);
+    }
+    told->certificate = argument_fault(certificate, certificate_len, n, paths);
+}
+
 static void pass(found *told, const uint8_t *loop, size_t loop_len, const uint8_t *certificate, size_t certificate_len,
-                 bool exclusions)
+                 bool judging)
 {
     uint64_t m = 0, ms = 0;
     told->certificate = told->condition = none;
+    if (judging && loop_len >= 6 && u16_at(loop + 4) == 5) {
+        pass_paths(told, loop, loop_len, certificate, certificate_len);
+        return;
+    }
     told->loop = loop_frame(loop, loop_len, &told->n, &m);
     if (told->loop.number) return;
-    told->certificate = certificate_frame(certificate, certificate_len, exclusions, told->n, m, &told->kind, &ms);
+    told->certificate = certificate_frame(certificate, certificate_len, judging, told->n, m, &told->kind, &ms);
     if (told->certificate.number) {
         told->loop = rows_fault(loop, 10, told->n, m);
         return;
@@ -442,7 +577,7 @@ static cushiedoo_verdict accepted(const found *told)
     verdict.outcome = told->kind;
     if (told->kind == CUSHIEDOO_EXCLUSION) {
         verdict.grade = told->grade;
-    } else {
+    } else if (told->kind != CUSHIEDOO_LEXICOGRAPHIC) {
         verdict.start = told->start;
         verdict.fall = told->fall;
     }
@@ -456,7 +591,7 @@ cushiedoo_verdict onepass_judge(const uint8_t *loop, size_t loop_len, const uint
     pass(&told, loop, loop_len, certificate, certificate_len, true);
     if (told.loop.number) return refused(told.loop.number, told.loop.place, 1);
     if (told.certificate.number) return refused(told.certificate.number, told.certificate.place, 2);
-    bool ranked = told.kind != CUSHIEDOO_EXCLUSION;
+    bool ranked = told.kind == CUSHIEDOO_RANKING || told.kind == CUSHIEDOO_LASSO;
     if (ranked && rank_len < told.n) return refused(7, told.n, 0);
     if (told.condition.number) return refused(told.condition.number, told.condition.place, 2);
     if (ranked) memcpy(rank, told.r, told.n * sizeof *rank);

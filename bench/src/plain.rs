@@ -3,9 +3,14 @@
 //! the value lists. It answers as the archive does.
 
 use cushiedoo::raw::{Bounded, Verdict};
+use std::array;
 
 const MOST_VARIABLES: usize = 16;
 const MOST_ROWS: usize = 64;
+const MOST_PATHS: usize = 8;
+const MOST_COMPONENTS: usize = 8;
+/// Bounded, ranking, and unaffecting for each component before the last.
+const MOST_LISTS: usize = 2 + MOST_COMPONENTS - 1;
 /// The largest b, d and s0, either way.
 const MOST_RIGHT: i64 = 2_000_000_000;
 /// The largest entry of a state, either way.
@@ -71,6 +76,12 @@ impl Cursor<'_> {
         let at = &self.bytes[self.place..self.place + 4];
         let value = i32::from_le_bytes([at[0], at[1], at[2], at[3]]);
         self.checked(value.into(), 4, -size, size)
+    }
+
+    fn fall(&mut self) -> Result<i64, Fault> {
+        let at = &self.bytes[self.place..self.place + 4];
+        let value = i32::from_le_bytes([at[0], at[1], at[2], at[3]]);
+        self.checked(value.into(), 4, 1, 1_000_000)
     }
 
     fn scale(&mut self) -> Result<i64, Fault> {
@@ -253,6 +264,181 @@ impl Lasso {
     }
 }
 
+/// A loop of several paths; only as many arrays are cleared as it has paths.
+struct Branches {
+    n: usize,
+    count: usize,
+    rows: [Option<Rows>; MOST_PATHS],
+}
+
+/// n, the rows of each path and how many paths there are, once the loop's length is that of its counts.
+fn path_counts(bytes: &[u8]) -> Result<(usize, [usize; MOST_PATHS], usize), Fault> {
+    framed_kind(bytes)?;
+    if bytes.len() < 10 {
+        return Err((3, 0));
+    }
+    let (n, count) = (u16_at(bytes, 6), u16_at(bytes, 8));
+    if !(1..=MOST_VARIABLES).contains(&n) {
+        return Err((5, 6));
+    }
+    if !(1..=MOST_PATHS).contains(&count) {
+        return Err((5, 8));
+    }
+    if bytes.len() < 10 + 2 * count {
+        return Err((3, 0));
+    }
+    let mut rows = [0; MOST_PATHS];
+    for (path, m) in rows[..count].iter_mut().enumerate() {
+        *m = u16_at(bytes, 10 + 2 * path);
+        if *m > MOST_ROWS {
+            return Err((5, 10 + 2 * path as u64));
+        }
+    }
+    let all: usize = rows.iter().sum();
+    if bytes.len() != 10 + 2 * count + all * (4 * n + 4) {
+        return Err((3, 0));
+    }
+    Ok((n, rows, count))
+}
+
+impl Branches {
+    fn parse(&mut self, bytes: &[u8]) -> Result<(), Fault> {
+        let (n, rows_of, count) = path_counts(bytes)?;
+        (self.n, self.count) = (n, count);
+        let place = 10 + 2 * count;
+        let mut cursor = Cursor { bytes, place };
+        for (path, &m) in self.rows.iter_mut().zip(&rows_of[..count]) {
+            cursor.rows(path.insert(Rows::NONE), n, m)?;
+        }
+        Ok(())
+    }
+}
+
+/// A component: r, δ0 and δ.
+#[derive(Clone, Copy)]
+struct Component {
+    r: Entries,
+    start: i64,
+    fall: i64,
+}
+
+const NO_COMPONENT: Component = Component {
+    r: NO_ENTRIES,
+    start: 0,
+    fall: 0,
+};
+
+/// A path's component number, and its lists of multipliers: bounded, ranking, unaffecting.
+struct Part {
+    number: usize,
+    lists: [Multipliers; MOST_LISTS],
+}
+
+/// A lexicographic argument; only as many arrays are cleared as there are paths.
+struct Argument {
+    components: [Component; MOST_COMPONENTS],
+    parts: [Option<Part>; MOST_PATHS],
+}
+
+/// The count of components and the number of each path, once the certificate's length is that of its counts.
+fn component_counts(
+    bytes: &[u8],
+    branches: &Branches,
+) -> Result<(usize, [usize; MOST_PATHS]), Fault> {
+    if framed_kind(bytes)? != 6 {
+        return Err((4, 4));
+    }
+    if bytes.len() < 8 {
+        return Err((3, 0));
+    }
+    let components = u16_at(bytes, 6);
+    if !(1..=MOST_COMPONENTS).contains(&components) {
+        return Err((5, 6));
+    }
+    if bytes.len() < 8 + 2 * branches.count {
+        return Err((3, 0));
+    }
+    let mut numbers = [0; MOST_PATHS];
+    let mut multipliers = 0;
+    for (path, rows) in branches.rows.iter().flatten().enumerate() {
+        numbers[path] = u16_at(bytes, 8 + 2 * path);
+        if numbers[path] >= components {
+            return Err((14, 8 + 2 * path as u64));
+        }
+        multipliers += rows.count * (2 + numbers[path]);
+    }
+    let components_end = 8 + 2 * branches.count + 4 * components * (branches.n + 2);
+    if bytes.len() != components_end + 2 * multipliers {
+        return Err((3, 0));
+    }
+    Ok((components, numbers))
+}
+
+impl Argument {
+    fn parse(&mut self, bytes: &[u8], branches: &Branches) -> Result<(), Fault> {
+        let (count, numbers) = component_counts(bytes, branches)?;
+        let place = 8 + 2 * branches.count;
+        let mut cursor = Cursor { bytes, place };
+        for component in &mut self.components[..count] {
+            cursor.directions(&mut component.r[..branches.n])?;
+            component.start = cursor.i32(MOST_RIGHT)?;
+            component.fall = cursor.fall()?;
+        }
+        for (path, rows) in branches.rows.iter().flatten().enumerate() {
+            let part = self.parts[path].insert(Part {
+                number: numbers[path],
+                lists: [NO_MULTIPLIERS; MOST_LISTS],
+            });
+            for list in &mut part.lists[..2 + numbers[path]] {
+                cursor.multipliers(&mut list[..rows.count])?;
+            }
+        }
+        Ok(())
+    }
+
+    /// 51 to 53, path by path.
+    fn judged(&self, branches: &Branches) -> Result<(), Fault> {
+        let paths = branches.rows.iter().flatten();
+        for (path, (rows, part)) in paths.zip(self.parts.iter().flatten()).enumerate() {
+            let weighs = |list: usize, component: &Component, next: i64, limit: i64| {
+                weighs(
+                    &part.lists[list],
+                    rows,
+                    branches.n,
+                    &component.r,
+                    next,
+                    limit,
+                )
+            };
+            let own = &self.components[part.number];
+            if !weighs(0, own, 0, -own.start) {
+                return Err((51, path as u64));
+            }
+            if !weighs(1, own, 1, -own.fall) {
+                return Err((52, path as u64));
+            }
+            if !(0..part.number).all(|i| weighs(2 + i, &self.components[i], 1, 0)) {
+                return Err((53, path as u64));
+            }
+        }
+        Ok(())
+    }
+}
+
+/// Whether the weighted rows sum to -r·x + next·r·x', and their right sides to the limit at most.
+fn weighs(
+    weights: &Multipliers,
+    rows: &Rows,
+    n: usize,
+    r: &Entries,
+    next: i64,
+    limit: i64,
+) -> bool {
+    (0..n).all(|j| column(weights, rows, &rows.now, j) == -r[j])
+        && (0..n).all(|j| column(weights, rows, &rows.next, j) == next * r[j])
+        && right(weights, rows) <= limit
+}
+
 /// Σ multiplier·entry down one column.
 fn column(weights: &Multipliers, rows: &Rows, entries: &[Entries; MOST_ROWS], j: usize) -> i64 {
     (0..rows.count).map(|i| weights[i] * entries[i][j]).sum()
@@ -433,9 +619,33 @@ fn judged(looped: &[u8], certificate: &[u8], list: &mut [i64]) -> Result<Verdict
     }
 }
 
+/// Not inlined, so that its arrays cost the other kinds nothing.
+#[inline(never)]
+fn judged_paths(looped: &[u8], certificate: &[u8]) -> Result<Verdict, Refused> {
+    let mut branches = Branches {
+        n: 0,
+        count: 0,
+        rows: array::from_fn(|_| None),
+    };
+    branches.parse(looped).map_err(of_loop)?;
+    let mut argument = Argument {
+        components: [NO_COMPONENT; MOST_COMPONENTS],
+        parts: array::from_fn(|_| None),
+    };
+    argument
+        .parse(certificate, &branches)
+        .map_err(of_certificate)?;
+    argument.judged(&branches).map_err(of_certificate)?;
+    Ok(verdict(6, 0, 0, 0))
+}
+
 /// As `cushiedoo_judge`.
 pub fn judge(looped: &[u8], certificate: &[u8], list: &mut [i64]) -> Verdict {
-    judged(looped, certificate, list).unwrap_or_else(refused)
+    let judged = match looped.len() >= 6 && u16_at(looped, 4) == 5 {
+        true => judged_paths(looped, certificate),
+        false => judged(looped, certificate, list),
+    };
+    judged.unwrap_or_else(refused)
 }
 
 fn state_in_range(state: &[i64], n: usize) -> Result<(), Refused> {

@@ -2,8 +2,7 @@
 
 use crate::contenders::{Contender, CONTENDERS};
 use crate::measure::{instructions, repeated, side_by_side, work, Time};
-use crate::subjects::{Answer, Call, Fill, Subject};
-use second_opinion::oracle::layout::Kind;
+use crate::subjects::{Answer, Call, Fill, Kind, Subject};
 use std::hint::black_box;
 
 /// A table of words, printed with blanks or as Markdown.
@@ -54,7 +53,7 @@ fn subject_cells(subject: &Subject) -> Vec<String> {
     let words = [
         format!("{:?}", subject.call),
         subject.kind.number().to_string(),
-        format!("{}, {}", subject.n, subject.m),
+        subject.size(),
         format!("{:?}", subject.fill),
         format!("{:?}", subject.answer),
         subject.bytes().to_string(),
@@ -116,7 +115,12 @@ pub fn growth_table(markdown: bool, measured: &[(Subject, Vec<Time>)]) {
     ];
     let mut table = Table::new(markdown, &heads);
     for call in [Call::Judge, Call::Bound] {
-        for kind in [Kind::Ranking, Kind::Exclusion, Kind::Lasso] {
+        for kind in [
+            Kind::Ranking,
+            Kind::Exclusion,
+            Kind::Lasso,
+            Kind::Lexicographic,
+        ] {
             let wanted = (call, kind, Fill::Dense, Answer::Accepted);
             for (i, contender) in CONTENDERS.into_iter().enumerate() {
                 let points: Vec<(f64, f64)> = measured
@@ -149,7 +153,8 @@ fn growth_cells(named: [String; 2], contender: Contender, points: &[(f64, f64)])
     ]
 }
 
-/// A sheet of many certificates against judging them one by one, both through the archive.
+/// A sheet of many certificates against judging them one by one, both through the archive. Sheets take no arguments for
+/// several paths.
 pub fn sheet_table(markdown: bool, subjects: &[Subject], repeats: usize) {
     let heads = [
         "kind",
@@ -162,7 +167,8 @@ pub fn sheet_table(markdown: bool, subjects: &[Subject], repeats: usize) {
     let mut table = Table::new(markdown, &heads);
     let accepted =
         |subject: &&Subject| subject.is((Call::Judge, subject.kind, Fill::Dense, Answer::Accepted));
-    for subject in subjects.iter().filter(accepted) {
+    let on_sheets = |subject: &&Subject| subject.kind != Kind::Lexicographic;
+    for subject in subjects.iter().filter(accepted).filter(on_sheets) {
         let count = ((65_536 - subject.looped.len()) / subject.certificate.len()).min(500);
         let input = [&subject.looped[..], &subject.certificate.repeat(count)].concat();
         let room = cushiedoo::sheet(&input, &mut []).expect_err("an empty room is too small");
@@ -173,7 +179,7 @@ pub fn sheet_table(markdown: bool, subjects: &[Subject], repeats: usize) {
         let times = side_by_side(&mut [sheet, judge], repeats);
         table.add(vec![
             subject.kind.number().to_string(),
-            format!("{}, {}", subject.n, subject.m),
+            subject.size(),
             count.to_string(),
             format!("{:.1}", times[0].minimum / count as f64),
             format!("{:.1}", times[1].minimum / count as f64),

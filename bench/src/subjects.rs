@@ -1,13 +1,37 @@
 //! What is measured: each call on loops of five sizes with certificates of each kind, dense and sparse, accepted and
-//! refused at several points. A tenth of the right sides lie near the ends of their range.
+//! refused at several points; loops of several paths have one path to eight. A tenth of the right sides lie near the ends of
+//! their range.
 
 use crate::contenders::Contender;
 use cushiedoo::raw::{Bounded, Verdict};
-use second_opinion::construct::{self, bring_to_edge, fail, Built, Inequality, Style, NEAR};
+use second_opinion::construct::{
+    self, bring_to_edge, conditions_of, fail, spoil, Built, BuiltPaths, Condition, Inequality,
+    PathSizes, Style, Wrong, NEAR,
+};
 use second_opinion::oracle::conditions::Row;
 use second_opinion::oracle::judging::Certificate;
-use second_opinion::oracle::layout::{Kind, RIGHT};
+use second_opinion::oracle::layout::RIGHT;
 use second_opinion::random::Random;
+
+/// The kind of certificate that is judged.
+#[derive(Clone, Copy, Debug, PartialEq, Eq)]
+pub enum Kind {
+    Ranking,
+    Exclusion,
+    Lasso,
+    Lexicographic,
+}
+
+impl Kind {
+    pub fn number(self) -> u64 {
+        match self {
+            Kind::Ranking => 2,
+            Kind::Exclusion => 3,
+            Kind::Lasso => 4,
+            Kind::Lexicographic => 6,
+        }
+    }
+}
 
 #[derive(Clone, Copy, Debug, PartialEq, Eq)]
 pub enum Call {
@@ -28,9 +52,9 @@ pub enum Fill {
 #[derive(Clone, Copy, Debug, PartialEq, Eq)]
 pub enum Answer {
     Accepted,
-    /// Refused by the last condition: 24, or 32 in the last row.
+    /// Refused by the last condition: 24, or 32 in the last row; 53 of the last path, or 52 where it has no earlier component.
     Last,
-    /// Refused by the first condition in its first column or row: 21, 31 or 41.
+    /// Refused by the first condition in its first column, row or path: 21, 31, 41 or 51.
     First,
     /// Refused by a ranking's last equation in its last column: 23.
     Column,
@@ -38,11 +62,13 @@ pub enum Answer {
     Direction,
     /// Refused by the last condition on a lasso's invariant: 46.
     Kept,
-    /// Refused before any value is looked at: the loop record's kind is not 1.
+    /// Refused before any value is looked at: the loop record's kind is that of no loop.
     Early,
 }
 
 pub const SIZES: [(usize, usize); 5] = [(1, 1), (2, 3), (4, 8), (8, 24), (16, 64)];
+/// With each of the sizes, so many paths, each with as many rows and a component of its own.
+const PATHS: [usize; 5] = [1, 2, 3, 4, 8];
 const KINDS: [Kind; 3] = [Kind::Ranking, Kind::Exclusion, Kind::Lasso];
 
 /// What is measured of a kind; one refusal is of this kind alone.
@@ -67,7 +93,9 @@ pub struct Subject {
     pub call: Call,
     pub kind: Kind,
     pub n: usize,
+    /// The rows, of each path if there are several.
     pub m: usize,
+    pub paths: usize,
     pub fill: Fill,
     pub answer: Answer,
     pub looped: Vec<u8>,
@@ -92,18 +120,28 @@ impl Told {
 }
 
 impl Subject {
-    /// A name by which a subject is chosen, such as `judge-2-16x64-dense-accepted`.
+    /// A name by which a subject is chosen, such as `judge-2-16x64-dense-accepted` or `judge-6-16x8x64-dense-last`.
     pub fn name(&self) -> String {
+        let size = match self.kind {
+            Kind::Lexicographic => format!("{}x{}x{}", self.n, self.paths, self.m),
+            _ => format!("{}x{}", self.n, self.m),
+        };
         let name = format!(
-            "{:?}-{}-{}x{}-{:?}-{:?}",
+            "{:?}-{}-{size}-{:?}-{:?}",
             self.call,
             self.kind.number(),
-            self.n,
-            self.m,
             self.fill,
             self.answer
         );
         name.to_lowercase()
+    }
+
+    /// The size as the tables have it: n and the rows, or so many paths of so many rows.
+    pub fn size(&self) -> String {
+        match self.kind {
+            Kind::Lexicographic => format!("{}, {} of {}", self.n, self.paths, self.m),
+            _ => format!("{}, {}", self.n, self.m),
+        }
     }
 
     /// Whether the subject is of this call, kind, fill and answer.
@@ -135,6 +173,9 @@ impl Subject {
         let (last_column, last_row) = (self.n as u64 - 1, self.m as u64 - 1);
         match (self.answer, self.kind) {
             (Answer::Accepted, _) => (0, 0),
+            (Answer::Last, Kind::Lexicographic) if self.paths == 1 => (52, 0),
+            (Answer::Last, Kind::Lexicographic) => (53, self.paths as u64 - 1),
+            (Answer::First, Kind::Lexicographic) => (51, 0),
             (Answer::Last, Kind::Exclusion) => (32, last_row),
             (Answer::Last, _) => (24, 0),
             (Answer::First, Kind::Exclusion) => (31, 0),
@@ -165,7 +206,94 @@ pub fn subjects() -> Vec<Subject> {
             }
         }
     }
+    for ((n, m), paths) in SIZES.into_iter().zip(PATHS) {
+        for fill in [Fill::Dense, Fill::Sparse] {
+            let built = build_paths(n, paths, m, fill);
+            let subject = |answer| path_subject(&built, fill, answer);
+            subjects.extend([Answer::Accepted, Answer::Last, Answer::First].map(subject));
+        }
+    }
     subjects
+}
+
+/// A subject with a loop of several paths, which only judging takes.
+fn path_subject(built: &BuiltPaths, fill: Fill, answer: Answer) -> Subject {
+    let mut built = built.clone();
+    let paths = built.pivots.len();
+    let n = built.pair.branches.n;
+    match answer {
+        Answer::First => fail_bounded(&mut built),
+        Answer::Last => {
+            let number = built.pair.argument.parts[paths - 1].component;
+            let conditions = conditions_of(number);
+            let last = conditions[conditions.len() - 1];
+            spoil(&mut built, paths - 1, last, Wrong::Next(n - 1, 1));
+        }
+        _ => {}
+    }
+    let pair = &built.pair;
+    Subject {
+        call: Call::Judge,
+        kind: Kind::Lexicographic,
+        n,
+        m: pair.branches.paths[0].len(),
+        paths,
+        fill,
+        answer,
+        looped: pair.loop_bytes(),
+        certificate: pair.certificate_bytes(),
+        state: Vec::new(),
+    }
+}
+
+/// Lets the first path's own component not be bounded: by the first column, or where no row has weight by its start.
+fn fail_bounded(built: &mut BuiltPaths) {
+    let before = built.pair.branches.clone();
+    spoil(built, 0, Condition::Bounded, Wrong::Now(0, 1));
+    if built.pair.branches == before {
+        let number = built.pair.argument.parts[0].component;
+        built.pair.argument.components[number].start = 1;
+    }
+}
+
+/// An accepted argument with a component for each path, in which no weight had to be dropped. Of every tenth row the right
+/// side lies at the lower end of its range, by which no sum of right sides gets larger.
+fn build_paths(n: usize, paths: usize, m: usize, fill: Fill) -> BuiltPaths {
+    let sizes = PathSizes {
+        n,
+        components: paths,
+        paths: (0..paths).map(|number| (m, number)).collect(),
+    };
+    let candidates = (0..).map(|seed| {
+        let random = &mut Random::new(seed);
+        construct::lexicographic(random, &sizes, style(fill))
+    });
+    let mut fitting = candidates.filter(|built| paths_fit(built, m));
+    let mut built = fitting.next().expect("one of the seeds fits");
+    for rows in &mut built.pair.branches.paths {
+        let tenth = rows.iter_mut().step_by(10);
+        tenth.for_each(|row| row.right = RIGHT.low);
+    }
+    built
+}
+
+/// Whether each path has as many rows as were asked for, and each list weight on all rows but those that close the others.
+fn paths_fit(built: &BuiltPaths, m: usize) -> bool {
+    let argument = &built.pair.argument;
+    let weighty = |list: &[i64]| list.iter().filter(|weight| **weight != 0).count();
+    argument
+        .parts
+        .iter()
+        .zip(&built.pivots)
+        .all(|(part, pivots)| {
+            let lists = [
+                &[part.bounded.clone(), part.ranking.clone()][..],
+                &part.unaffecting,
+            ]
+            .concat();
+            let full = |list: &Vec<i64>| list.len() == m && weighty(list) + lists.len() == m + 1;
+            m == 1 && pivots.len() == 1 || lists.iter().all(full)
+        })
 }
 
 fn subject(built: &Built, call: Call, fill: Fill, answer: Answer) -> Subject {
@@ -181,13 +309,18 @@ fn subject(built: &Built, call: Call, fill: Fill, answer: Answer) -> Subject {
     let pair = &built.pair;
     let mut looped = pair.loop_bytes();
     if answer == Answer::Early {
-        looped[4] = 5;
+        looped[4] = 0;
     }
     Subject {
         call,
-        kind: pair.certificate_shape().kind,
+        kind: match pair.certificate {
+            Certificate::Ranking(_) => Kind::Ranking,
+            Certificate::Exclusion(_) => Kind::Exclusion,
+            Certificate::Lasso(_) => Kind::Lasso,
+        },
         n: pair.n,
         m: pair.rows.len(),
+        paths: 1,
         fill,
         answer,
         looped,
@@ -204,16 +337,20 @@ fn state_for(n: usize, certificate: &Certificate) -> Vec<i64> {
     }
 }
 
-/// An accepted pair in which no weight had to be dropped. A lasso's stem has as many rows as the loop.
-fn build(kind: Kind, n: usize, m: usize, fill: Fill) -> Built {
-    let style = Style {
+fn style(fill: Fill) -> Style {
+    Style {
         entry: 9,
         right: SMALL,
         ends: false,
         weight: 9,
         zeros: if fill == Fill::Dense { 0 } else { 9 },
         mirrored: false,
-    };
+    }
+}
+
+/// An accepted pair in which no weight had to be dropped. A lasso's stem has as many rows as the loop.
+fn build(kind: Kind, n: usize, m: usize, fill: Fill) -> Built {
+    let style = style(fill);
     let candidates = (0..).map(|seed| {
         let random = &mut Random::new(seed);
         match kind {
@@ -379,6 +516,21 @@ mod tests {
                     if let Certificate::Lasso(lasso) = &built.pair.certificate {
                         assert!(enough(&lasso.stem), "{built:?}");
                     }
+                }
+            }
+        }
+    }
+
+    #[test]
+    fn a_tenth_of_the_rows_of_each_path_have_right_sides_near_an_end() {
+        for ((n, m), paths) in SIZES.into_iter().zip(PATHS) {
+            for fill in [Fill::Dense, Fill::Sparse] {
+                let branches = build_paths(n, paths, m, fill).pair.branches;
+                assert_eq!(branches.paths.len(), paths);
+                for rows in branches.paths {
+                    assert_eq!(rows.len(), m);
+                    let near = rows.iter().filter(|row| near_an_end(row)).count();
+                    assert!(near * 10 >= m, "{rows:?}");
                 }
             }
         }

@@ -34,6 +34,9 @@ static const char *failing(uint64_t number)
     case 44: return "HA - h0 s is not 0 in this column";
     case 45: return "HA' is not -k2 s in this column";
     case 46: return "Hb + h0 s0 is above k2 s0";
+    case 51: return "this path's own component is not bounded";
+    case 52: return "this path's own component does not fall";
+    case 53: return "this path does not keep an earlier component from rising";
     default: return "unknown number";
     }
 }
@@ -56,6 +59,7 @@ static const char *meaning(uint64_t number)
         "lasso state outside the invariant",
         "value list of the wrong length",
     };
+    if (number == CUSHIEDOO_COMPONENT) return "component number that doesn't exist";
     return number < COUNT(meanings) ? meanings[number] : failing(number);
 }
 
@@ -90,6 +94,9 @@ static void print_verdict(const cushiedoo_verdict *verdict, const int64_t *rank,
     case CUSHIEDOO_EXCLUSION:
         printf("accepted: an exclusion; no linear ranking function exists over fractions%s\n",
                verdict->grade == CUSHIEDOO_WHOLE ? " or over whole numbers" : "");
+        break;
+    case CUSHIEDOO_LEXICOGRAPHIC:
+        printf("accepted: a lexicographic argument; no run through the loop's paths goes on for ever\n");
         break;
     default:
         printf("refused %" PRIu64 " at place %" PRIu64 " of %s: %s\n", verdict->number, verdict->place,

@@ -1,5 +1,5 @@
 //! The cases: for each call of the archive, inputs of every kind, valid, damaged, at and past the limits, and with
-//! conditions that just hold, just fail, or fail together.
+//! conditions that just hold, just fail, or fail together. Those with loops of several paths stand in `path_cases`.
 
 use crate::construct::{self, Built, Inequality, Style};
 use crate::damage::{any_record, any_values, damage, limits};
@@ -9,6 +9,7 @@ use crate::oracle::judging::{self, Certificate};
 use crate::oracle::layout::{Kind, Range, Shape, RIGHT, ROWS, STATE, VARIABLES};
 use crate::oracle::record::Record;
 use crate::oracle::sheet::LONGEST_INPUT;
+use crate::path_cases;
 use crate::random::Random;
 use crate::right_sides;
 
@@ -59,17 +60,18 @@ pub enum Case {
 
 /// The case that a generator gives.
 pub fn case(random: &mut Random) -> Case {
-    match random.below(20) {
+    match random.below(23) {
         0..=2 => read_loop(random),
         3..=5 => read_certificate(random),
         6..=8 => write_record(random),
         9..=10 => sheet(random),
         11..=15 => judge(random),
-        _ => bound(random),
+        16..=19 => bound(random),
+        _ => path_cases::case(random),
     }
 }
 
-fn some_style(random: &mut Random) -> Style {
+pub(crate) fn some_style(random: &mut Random) -> Style {
     Style {
         entry: random.pick(&[1, 3, 9, 100, 30_000]),
         right: random.pick(&[0, 3, 20, 1000, 1_000_000, RIGHT.high]),
@@ -197,7 +199,7 @@ fn change_any_value_by_one(random: &mut Random, pair: &mut Pair) {
 }
 
 /// A loop and a certificate, well formed: accepted, or with conditions that fail, or of any values.
-fn some_pair(random: &mut Random, kind: Kind) -> Built {
+pub(crate) fn some_pair(random: &mut Random, kind: Kind) -> Built {
     let breaks = random.below(8) < if kind == Kind::Lasso { 3 } else { 2 };
     let mut built = match breaks && !random.one_in(5) {
         true => some_built_with(random, kind, 3, 1),
@@ -218,7 +220,7 @@ fn some_pair(random: &mut Random, kind: Kind) -> Built {
     built
 }
 
-fn some_certificate_kind(random: &mut Random) -> Kind {
+pub(crate) fn some_certificate_kind(random: &mut Random) -> Kind {
     random.pick(&[Kind::Ranking, Kind::Exclusion, Kind::Lasso])
 }
 
@@ -262,7 +264,7 @@ fn some_bytes(random: &mut Random, pair: &Pair, damaged_in: usize) -> (Vec<u8>, 
 }
 
 /// Room for a count: exactly, one too few, none, or more.
-fn some_room(random: &mut Random, count: usize) -> usize {
+pub(crate) fn some_room(random: &mut Random, count: usize) -> usize {
     match random.below(10) {
         0 => count.saturating_sub(1),
         1 => random.below(count + 1),
@@ -300,7 +302,7 @@ fn read_loop(random: &mut Random) -> Case {
 }
 
 /// n or m as a caller may give it: right, or off, or far out.
-fn some_argument(random: &mut Random, right: usize, range: Range) -> u64 {
+pub(crate) fn some_argument(random: &mut Random, right: usize, range: Range) -> u64 {
     let right = right as u64;
     match random.below(12) {
         0 => random.pick(&[range.low as u64, range.high as u64, range.high as u64 + 1]),
@@ -389,7 +391,7 @@ fn move_right_side(random: &mut Random, shape: Shape, values: &mut [i64]) {
 fn some_kind_number(random: &mut Random, right: u64) -> u64 {
     match random.below(20) {
         0 => random.pick(&[1, 2, 3, 4]),
-        1 => random.pick(&[0, 5, 9, u64::MAX, right + (1 << 16), right + (1 << 32)]),
+        1 => random.pick(&[0, 5, 6, 9, u64::MAX, right + (1 << 16), right + (1 << 32)]),
         _ => right,
     }
 }
@@ -432,7 +434,7 @@ fn judge(random: &mut Random) -> Case {
 }
 
 /// State entries of one size, or at the limits.
-fn some_state(random: &mut Random, n: usize) -> Vec<i64> {
+pub(crate) fn some_state(random: &mut Random, n: usize) -> Vec<i64> {
     let size = random.pick(&[0, 1, 10, 1000, 1_000_000]);
     let at_limit = random.one_in(5);
     let mut entry = || match at_limit {

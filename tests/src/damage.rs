@@ -21,6 +21,18 @@ fn field_limit(random: &mut Random, field: Field) -> i64 {
     random.pick(&limits(field.range, field.form.holds()))
 }
 
+/// Damages a record in a way that needs no layout: its bytes, its length or its kind.
+pub fn damage_frame(random: &mut Random, bytes: &mut Vec<u8>) {
+    match random.below(6) {
+        0 => truncate(random, bytes),
+        1 => extend(random, bytes),
+        2 => restate_length(random, bytes),
+        3 => resize(random, bytes),
+        4 => change_kind(random, bytes),
+        _ => change_bytes(random, bytes),
+    }
+}
+
 /// Damages a record of this shape in one way. Now and then the damage is none, since limits are in range too.
 pub fn damage(random: &mut Random, shape: Shape, bytes: &mut Vec<u8>) {
     match random.below(13) {

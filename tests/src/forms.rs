@@ -3,7 +3,9 @@
 
 use crate::oracle::conditions::{Exclusion, Row};
 use crate::oracle::judging::Certificate;
-use crate::oracle::layout::{Form, Kind, Shape};
+use crate::oracle::layout::{Field, Form, Kind, Shape};
+use crate::oracle::lexicographic::{Branches, Component, Lexicographic, Part};
+use crate::oracle::paths::{CertificateShape, LEXICOGRAPHIC, PATH_LOOP};
 
 /// A loop with a certificate for it, which may or may not be accepted.
 #[derive(Clone, Debug)]
@@ -84,12 +86,76 @@ pub fn bytes_of(shape: Shape, values: &[i64]) -> Vec<u8> {
         Form::U16.put(shape.n as i64, &mut bytes, 6);
         Form::U16.put(shape.m as i64, &mut bytes, 8);
     }
-    let mut place = shape.kind.values_place();
-    for (field, &value) in shape.fields().iter().zip(values) {
-        field.form.put(value, &mut bytes, place);
+    put_values(
+        &mut bytes,
+        shape.kind.values_place(),
+        &shape.fields(),
+        values,
+    );
+    bytes
+}
+
+/// Puts the values of fields, the first of them at a place.
+fn put_values(bytes: &mut [u8], mut place: usize, fields: &[Field], values: &[i64]) {
+    for (field, &value) in fields.iter().zip(values) {
+        field.form.put(value, bytes, place);
         place += field.form.width();
     }
+}
+
+/// A loop of several paths with an argument for it, which may or may not be accepted.
+#[derive(Clone, Debug)]
+pub struct PathPair {
+    pub branches: Branches,
+    pub argument: Lexicographic,
+}
+
+impl PathPair {
+    pub fn certificate_shape(&self) -> CertificateShape {
+        self.argument.shape(self.branches.shape())
+    }
+
+    pub fn loop_bytes(&self) -> Vec<u8> {
+        let shape = self.branches.shape();
+        let counts = [&[shape.n, shape.rows.len()], &shape.rows[..]].concat();
+        let mut bytes = counted_bytes(PATH_LOOP, shape.length(), &counts);
+        let values = row_values(&self.branches.paths.concat());
+        put_values(&mut bytes, shape.values_place(), &shape.fields(), &values);
+        bytes
+    }
+
+    pub fn certificate_bytes(&self) -> Vec<u8> {
+        let shape = self.certificate_shape();
+        let counts = [&[shape.components], &shape.numbers[..]].concat();
+        let mut bytes = counted_bytes(LEXICOGRAPHIC, shape.length(), &counts);
+        let values = argument_values(&self.argument);
+        put_values(&mut bytes, shape.values_place(), &shape.fields(), &values);
+        bytes
+    }
+}
+
+/// L, a kind and counts, with the room of L.
+fn counted_bytes(kind: u64, length: usize, counts: &[usize]) -> Vec<u8> {
+    let mut bytes = vec![0; 4 + length];
+    put_length(&mut bytes, length);
+    Form::U16.put(kind as i64, &mut bytes, 4);
+    for (i, &count) in counts.iter().enumerate() {
+        Form::U16.put(count as i64, &mut bytes, 6 + 2 * i);
+    }
     bytes
+}
+
+/// The values of an argument in layout order: component by component, then path by path its lists.
+fn argument_values(argument: &Lexicographic) -> Vec<i64> {
+    let component = |c: &Component| [&c.r[..], &[c.start, c.fall]].concat();
+    let part = |part: &Part| {
+        let lists = [&part.bounded[..], &part.ranking].concat();
+        [lists, part.unaffecting.concat()].concat()
+    };
+    let components = argument.components.iter().flat_map(component);
+    components
+        .chain(argument.parts.iter().flat_map(part))
+        .collect()
 }
 
 /// Puts L into the first four bytes.

@@ -2,9 +2,11 @@
 //! held to it.
 //!
 //! - [`oracle`] is the paper, plainly rendered; it leans on nothing else here.
-//! - [`construct`], [`damage`] and [`cases`] make the inputs from a seed.
+//! - [`construct`], [`damage`] and [`cases`] make the inputs from a seed; those with loops of several paths [`path_damage`]
+//!   and [`path_cases`].
 //! - [`compare`] calls the archive, and compares every number told and every entry of every list lent.
-//! - [`tally`] counts what came up ([`right_sides`] and [`grades`] those of a case), and says which quotas are not met.
+//! - [`tally`] counts what came up ([`right_sides`], [`grades`] and [`path_ways`] those of a case), and says which quotas
+//!   are not met.
 
 pub mod cases;
 pub mod compare;
@@ -13,6 +15,9 @@ pub mod damage;
 pub mod forms;
 pub mod grades;
 pub mod oracle;
+pub mod path_cases;
+pub mod path_damage;
+pub mod path_ways;
 pub mod random;
 pub mod right_sides;
 pub mod tally;

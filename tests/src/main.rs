@@ -3,7 +3,7 @@
 //!     cargo run --release -- [--cases N] [--seed S] [--first I]
 //!
 //! The last line is `cases N, disagreements D`. The exit is not 0 if there is a disagreement, or if a run of at least
-//! 200,000 cases leaves a quota unmet. A case that disagrees is printed with its index; `--first INDEX --cases 1` runs
+//! 300,000 cases leaves a quota unmet. A case that disagrees is printed with its index; `--first INDEX --cases 1` runs
 //! it again. The cases are shared out among the cores; what is counted and printed is the same with any number of them.
 
 use second_opinion::cases::case;
@@ -16,7 +16,7 @@ use std::thread;
 use std::time::Instant;
 
 /// Quotas are asked of runs of at least so many cases.
-const WHOLE_RUN: u64 = 200_000;
+const WHOLE_RUN: u64 = 300_000;
 /// So many disagreements are printed.
 const PRINTED: usize = 10;
 

@@ -6,6 +6,7 @@ use crate::construct::NEAR;
 use crate::oracle::layout::{Form, Kind, Shape, RIGHT};
 use crate::oracle::record::{loop_record, stated_length};
 use crate::oracle::Refusal;
+use crate::path_ways;
 
 /// Which of a record's values are right sides: b, or d and then s0.
 pub fn indices(shape: Shape) -> Vec<usize> {
@@ -128,11 +129,20 @@ fn of_case(case: &Case, record: u64) -> Vec<RightSide> {
     }
 }
 
-/// The ends of the range near which a right side of the case lies. Of a sheet the loop alone is looked at.
+/// The ends of the range near which a right side of the case lies, or a start where a loop has several paths. Of a sheet the
+/// loop alone is looked at.
 pub fn ends_near(case: &Case) -> Vec<i64> {
-    let sides = all_of(case);
+    let mut values: Vec<i64> = all_of(case).iter().map(|side| side.value).collect();
+    if let Case::Judge {
+        loop_bytes,
+        certificate,
+        ..
+    } = case
+    {
+        values.extend(path_ways::right_sides(loop_bytes, certificate));
+    }
     let near = |end: i64, value: i64| RIGHT.holds(value) && (value - end).abs() <= NEAR;
-    let has = |end: &i64| sides.iter().any(|side| near(*end, side.value));
+    let has = |end: &i64| values.iter().any(|value| near(*end, *value));
     [RIGHT.low, RIGHT.high].into_iter().filter(has).collect()
 }
 

@@ -3,6 +3,11 @@
 //! 100 times, and 50 times each at its first place, at its last, and together with the next condition; a right side near
 //! each end of its range in a tenth of the cases, and one past it, for b, d and s0, 50 times; accepted exclusions with q
 //! above 1 of either grade 100 times, and 50 times each way in which they have it.
+//!
+//! Of loops with several paths: 5 % of all cases are accepted, a fifth of these with a path whose component is 2 or more; a
+//! fifth of those judged have three paths or more and two components or more; each refusal number of either record, and each
+//! condition that fails, 100 times; and 50 times each way in which it does, each count of paths and components, and each call
+//! or pair of records in which kinds 5 and 6 are not wanted.
 
 use crate::cases::Case;
 use crate::compare::{Answer, Lent, Told};
@@ -11,6 +16,7 @@ use crate::grades;
 use crate::oracle::judging;
 use crate::oracle::layout::RIGHT;
 use crate::oracle::Refusal;
+use crate::path_ways;
 use crate::right_sides;
 use std::collections::BTreeMap;
 
@@ -26,6 +32,11 @@ const LEAST_ACCEPTED: u64 = 30;
 /// The fewest cases in a hundred that have a right side near each end of its range; of the accepted, near either.
 const LEAST_NEAR_ENDS: u64 = 10;
 const ENDS: [i64; 2] = [RIGHT.low, RIGHT.high];
+/// Of loops with several paths: the fewest accepted in a hundred of all cases, and the shares of those judged and accepted
+/// that are wide and deep.
+const LEAST_LEXICOGRAPHIC: u64 = 5;
+const LEAST_WIDE: u64 = 20;
+const LEAST_DEEP: u64 = 20;
 
 /// What must come up, under the names that `Tally::count` gives.
 const QUOTAS: [(&str, &[&str]); 6] = [
@@ -195,6 +206,7 @@ fn right_side_quotas() -> Vec<(&'static str, String, u64)> {
         ("judge", "exclusion whole"),
         ("judge", "exclusion fractions"),
         ("judge", "lasso"),
+        ("judge", "lexicographic"),
         ("bound", "ranking, bound above 1"),
         ("bound", "lasso, bound above 1"),
     ];
@@ -267,6 +279,9 @@ impl Tally {
         for way in grades::ways_of(case, &answer.told) {
             self.add(call, way.to_string());
         }
+        for way in path_ways::ways_of(case, &answer.told) {
+            self.add(call, way);
+        }
         for line in lines {
             self.add(call, line);
         }
@@ -289,6 +304,35 @@ impl Tally {
         }
     }
 
+    /// The shares of loops with several paths: what, how often, of how many, and the least in a hundred.
+    fn path_shares(&self) -> [(&'static str, u64, u64, u64); 3] {
+        let judged = |name: &str| {
+            let name = ("judge", name.to_string());
+            self.counts.get(&name).copied().unwrap_or(0)
+        };
+        let accepted = judged(path_ways::ACCEPTED);
+        [
+            (
+                "accepted lexicographic",
+                accepted,
+                self.cases,
+                LEAST_LEXICOGRAPHIC,
+            ),
+            (
+                path_ways::WIDE,
+                judged(path_ways::WIDE),
+                judged(path_ways::JUDGED),
+                LEAST_WIDE,
+            ),
+            (
+                path_ways::DEEP,
+                judged(path_ways::DEEP),
+                accepted,
+                LEAST_DEEP,
+            ),
+        ]
+    }
+
     /// Prints all counts.
     pub fn print(&self) {
         for (call, _) in QUOTAS {
@@ -309,6 +353,9 @@ impl Tally {
             self.accepted_near_ends,
             self.accepted,
         );
+        for (what, count, all, _) in self.path_shares() {
+            print(what, count, all);
+        }
         print("accepted", self.accepted, self.cases);
     }
 
@@ -341,12 +388,18 @@ impl Tally {
         for name in grades::SELDOM {
             ask("judge", name.to_string(), LEAST_WAY);
         }
+        for (call, name, least) in path_ways::quotas(LEAST_FAILING, LEAST_WAY) {
+            ask(call, name, least);
+        }
         let mut share = |what: &str, count: u64, all: u64, least: u64| {
             if count * 100 < all * least {
                 unmet.push(format!("{what}: less than {least} %"));
             }
         };
         share("accepted", self.accepted, self.cases, LEAST_ACCEPTED);
+        for (what, count, all, least) in self.path_shares() {
+            share(what, count, all, least);
+        }
         for (count, end) in self.near_ends.into_iter().zip(ENDS) {
             let what = format!("right sides near {end}");
             share(&what, count, self.cases, LEAST_NEAR_ENDS);
@@ -438,6 +491,7 @@ fn outcome_name(outcome: u64, grade: u64) -> String {
     let name = match (outcome, grade) {
         (2, _) => "ranking",
         (4, _) => "lasso",
+        (6, _) => "lexicographic",
         (3, 1) => "exclusion whole",
         _ => "exclusion fractions",
     };

@@ -15,7 +15,7 @@ pub enum Record {
     Certificate,
 }
 
-/// Where a certificate fails a condition first. Columns and rows count from 0; a column stands for a variable.
+/// Where a certificate fails a condition first. Columns, rows and paths count from 0; a column stands for a variable.
 #[derive(Clone, Copy, Debug, PartialEq, Eq, Hash)]
 pub enum Fails {
     /// An equation of weighted sums, in this column.
@@ -24,6 +24,8 @@ pub enum Fails {
     AtRow(u64),
     /// An inequality of right sides, of which there is one.
     OnRightSides,
+    /// A sum of weighted rows, or its right sides, of this path.
+    OnPath(u64),
 }
 
 /// A refusal: its number, its place, and the record that it speaks of.
@@ -49,8 +51,8 @@ pub enum Fails {
 /// ```
 #[derive(Clone, Copy, Debug, PartialEq, Eq, Hash)]
 pub struct Refusal {
-    /// The number of the refusal: 1 to 12 without 8, which is no longer given, or that of a condition that fails, 21 to
-    /// 24, 31, 32, 41 to 46.
+    /// The number of the refusal: 1 to 12 without 8, which is no longer given, 14, or that of a condition that fails, 21 to
+    /// 24, 31, 32, 41 to 46, 51 to 53.
     pub number: u64,
     /// Its place; [`Refusal::place_meaning`] says of what.
     pub place: u64,
@@ -61,6 +63,7 @@ pub struct Refusal {
 /// What the places of conditions tell.
 const COLUMN: &str = "column, from 0";
 const ROW: &str = "row, from 0";
+const PATH: &str = "path, from 0";
 
 impl Refusal {
     /// What the number means, in words.
@@ -79,6 +82,7 @@ impl Refusal {
             21..=23 | 41 | 42 | 44 | 45 => Some(Fails::InColumn(self.place)),
             31 | 32 => Some(Fails::AtRow(self.place)),
             24 | 43 | 46 => Some(Fails::OnRightSides),
+            51..=53 => Some(Fails::OnPath(self.place)),
             _ => None,
         }
     }
@@ -103,6 +107,10 @@ impl Refusal {
             10 => ("state doesn't have n entries", "number of entries"),
             11 => ("lasso state outside the invariant", "always 0"),
             12 => ("value list of the wrong length", "length needed"),
+            14 => (
+                "component number that doesn't exist, the first",
+                "its first byte",
+            ),
             21 => ("YA' is not 0", COLUMN),
             22 => ("(Y - Z)A is not 0", COLUMN),
             23 => ("Z(A + A') is not 0", COLUMN),
@@ -115,6 +123,18 @@ impl Refusal {
             44 => ("HA - h0 s is not 0", COLUMN),
             45 => ("HA' is not -k2 s", COLUMN),
             46 => ("Hb + h0 s0 is above k2 s0", "always 0"),
+            51 => (
+                "the bounded rows do not sum to -r·x, or their right sides to more than -δ0",
+                PATH,
+            ),
+            52 => (
+                "the ranking rows do not sum to -r·x + r·x', or their right sides to more than -δ",
+                PATH,
+            ),
+            53 => (
+                "the unaffecting rows do not sum to -r·x + r·x' of an earlier component, or their right sides to more than 0",
+                PATH,
+            ),
             _ => ("a number that this version doesn't know", "unknown"),
         }
     }
@@ -137,6 +157,7 @@ impl fmt::Display for Refusal {
         match self.fails() {
             Some(Fails::InColumn(column)) => write!(out, ": {meaning} in column {column}"),
             Some(Fails::AtRow(row)) => write!(out, ": at row {row} {meaning}"),
+            Some(Fails::OnPath(path)) => write!(out, ": path {path}: {meaning}"),
             _ => write!(out, ": {meaning}"),
         }
     }
@@ -172,6 +193,9 @@ pub enum Outcome {
     Exclusion { grade: Grade },
     /// The loop ends after one step of the stem, by a ranking that leans on an invariant.
     Lasso { start: i64, fall: i64 },
+    /// The loop ends through whichever of its paths each step goes: no run goes on for ever. How many steps one takes is not
+    /// told.
+    Lexicographic,
 }
 
 impl fmt::Display for Outcome {
@@ -180,6 +204,7 @@ impl fmt::Display for Outcome {
             Outcome::Ranking { start, fall } => write!(out, "rank from {start} down {fall}"),
             Outcome::Exclusion { grade } => write!(out, "excluded {grade}"),
             Outcome::Lasso { start, fall } => write!(out, "lasso from {start} down {fall}"),
+            Outcome::Lexicographic => out.write_str("lexicographic"),
         }
     }
 }
@@ -261,11 +286,12 @@ fn refusal(number: u64, place: u64, record: u64) -> Option<Refusal> {
     })
 }
 
-/// The outcome of an accepted answer. The archive gives no outcome but 2, 3 and 4 there, and no grade but 1 and 2.
+/// The outcome of an accepted answer. The archive gives no outcome but 2, 3, 4 and 6 there, and no grade but 1 and 2.
 fn outcome(outcome: u64, start: i64, fall: i64, grade: u64) -> Outcome {
     match (outcome, grade) {
         (2, _) => Outcome::Ranking { start, fall },
         (4, _) => Outcome::Lasso { start, fall },
+        (6, _) => Outcome::Lexicographic,
         (3, 1) => Outcome::Exclusion {
             grade: Grade::Whole,
         },

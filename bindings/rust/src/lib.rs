@@ -133,7 +133,26 @@ pub fn sheet_text(input: &[u8]) -> String {
 }
 
 /// Judges a certificate for a loop. On acceptance of a ranking or a lasso the first n numbers of `rank` are r; an
-/// exclusion touches none.
+/// exclusion touches none. A loop of several paths (kind 5) and a lexicographic argument (kind 6) are judged only together
+/// and touch none.
+///
+/// ```
+/// use cushiedoo::{judge, Outcome};
+///
+/// // Two paths over x: while x >= 1 it falls by 1; while x >= 3 it falls by 2. r·x = x is at least 1 and falls by 1.
+/// let looped = [
+///     42, 0, 0, 0, 5, 0, 1, 0, 2, 0, 2, 0, 2, 0, // L, kind, n, paths, m of each
+///     255, 255, 0, 0, 255, 255, 255, 255, 255, 255, 1, 0, 255, 255, 255, 255, // -x <= -1; -x + x' <= -1
+///     255, 255, 0, 0, 253, 255, 255, 255, 255, 255, 1, 0, 254, 255, 255, 255, // -x <= -3; -x + x' <= -2
+/// ];
+/// let argument = [
+///     36, 0, 0, 0, 6, 0, 1, 0, 0, 0, 0, 0, // L, kind, components, the component of each path
+///     1, 0, 0, 0, 1, 0, 0, 0, 1, 0, 0, 0, // r, δ0, δ
+///     1, 0, 0, 0, 0, 0, 1, 0, // the first path's multipliers: bounded, ranking
+///     1, 0, 0, 0, 0, 0, 1, 0, // the second's
+/// ];
+/// assert_eq!(judge(&looped, &argument, &mut []).outcome(), Some(Outcome::Lexicographic));
+/// ```
 pub fn judge(loop_record: &[u8], certificate: &[u8], rank: &mut [i64]) -> Verdict {
     // SAFETY: the slices are valid for their lengths, and `rank` is borrowed alone.
     unsafe {
@@ -150,7 +169,7 @@ pub fn judge(loop_record: &[u8], certificate: &[u8], rank: &mut [i64]) -> Verdic
 }
 
 /// Judges a ranking or a lasso and tells how many steps a run from `state` can take at most. An exclusion is refused
-/// with 4.
+/// with 4, and so is a loop of several paths or an argument for one.
 pub fn bound(loop_record: &[u8], certificate: &[u8], state: &[i64]) -> Result<Bounded, Refusal> {
     // SAFETY: the slices are valid for their lengths.
     unsafe {

@@ -147,9 +147,113 @@ fn every_number_has_words() {
         refusal.place_meaning() != "unknown"
     };
     let numbers: Vec<u64> = (0..100).filter(|&number| known(number)).collect();
-    let given = [1..=7, 9..=12, 21..=24, 31..=32, 41..=46];
+    let given = [1..=7, 9..=12, 14..=14, 21..=24, 31..=32, 41..=46, 51..=53];
     let given: Vec<u64> = given.into_iter().flatten().collect();
     assert_eq!(numbers, given);
+}
+
+/// While x >= 1 and y >= 1 over (x, y): either x falls, or y falls and x does not rise. Each row: A, A', b.
+fn two_counters() -> Vec<u8> {
+    let guards = [([-1, 0, 0, 0], -1), ([0, -1, 0, 0], -1)];
+    let first = [([-1, 0, 1, 0], -1)];
+    let second = [([-1, 0, 1, 0], 0), ([0, -1, 0, 1], -1)];
+    let rows = [&guards[..], &first, &guards, &second].concat();
+    let mut bytes = vec![94, 0, 0, 0, 5, 0, 2, 0, 2, 0, 3, 0, 4, 0];
+    for (entries, right) in rows {
+        entries
+            .iter()
+            .for_each(|entry: &i16| bytes.extend(entry.to_le_bytes()));
+        bytes.extend(i32::to_le_bytes(right));
+    }
+    bytes
+}
+
+/// An argument of two components, x and y, each at least `starts` of its own and falling by 1; of the first path x, of the
+/// second y, which does not raise x.
+fn counters_argument(components: [u16; 2], starts: [i32; 2], multipliers: [u16; 18]) -> Vec<u8> {
+    let mut bytes = vec![76, 0, 0, 0, 6, 0, 2, 0];
+    components
+        .iter()
+        .for_each(|number| bytes.extend(number.to_le_bytes()));
+    for number in [1, 0, starts[0], 1, 0, 1, starts[1], 1] {
+        bytes.extend(i32::to_le_bytes(number));
+    }
+    multipliers
+        .iter()
+        .for_each(|multiplier| bytes.extend(multiplier.to_le_bytes()));
+    bytes
+}
+
+const COUNTERS: [u16; 18] = [1, 0, 0, 0, 0, 1, 0, 1, 0, 0, 0, 0, 0, 1, 0, 0, 1, 0];
+
+#[test]
+fn a_lexicographic_argument_needs_and_touches_no_rank_list() {
+    let argument = counters_argument([0, 1], [1, 1], COUNTERS);
+    let mut rank = [9; 2];
+    let verdict = judge(&two_counters(), &argument, &mut rank);
+    assert_eq!(verdict, Verdict::Accepted(Outcome::Lexicographic));
+    assert_eq!(verdict.to_string(), "accepted: lexicographic");
+    assert_eq!(rank, [9, 9]);
+    assert_eq!(judge(&two_counters(), &argument, &mut []), verdict);
+}
+
+#[test]
+fn a_path_that_fails_a_condition_is_told_in_words() {
+    let told = |starts, changed: &[usize]| {
+        let mut multipliers = COUNTERS;
+        changed.iter().for_each(|&place| multipliers[place] = 0);
+        let argument = counters_argument([0, 1], starts, multipliers);
+        failing(&two_counters(), &argument)
+    };
+    let bounded = told([2, 1], &[]);
+    assert_eq!(bounded.fails(), Some(Fails::OnPath(0)));
+    assert_eq!(
+        bounded.to_string(),
+        "refused 51, place 0 (path, from 0), in the certificate: path 0: \
+         the bounded rows do not sum to -r·x, or their right sides to more than -δ0"
+    );
+    assert_eq!(
+        told([1, 1], &[13]).to_string(),
+        "refused 52, place 1 (path, from 0), in the certificate: path 1: \
+         the ranking rows do not sum to -r·x + r·x', or their right sides to more than -δ"
+    );
+    assert_eq!(
+        told([1, 1], &[16]).to_string(),
+        "refused 53, place 1 (path, from 0), in the certificate: path 1: \
+         the unaffecting rows do not sum to -r·x + r·x' of an earlier component, or their right sides to more than 0"
+    );
+    let missing = failing(
+        &two_counters(),
+        &counters_argument([0, 2], [1, 1], COUNTERS),
+    );
+    assert_eq!(missing.fails(), None);
+    assert_eq!(
+        missing.to_string(),
+        "refused 14, place 10 (its first byte), in the certificate: component number that doesn't exist, the first"
+    );
+}
+
+#[test]
+fn several_paths_and_arguments_for_them_go_only_together() {
+    let argument = counters_argument([0, 1], [1, 1], COUNTERS);
+    let unwanted = |record| Refusal {
+        number: 4,
+        place: 4,
+        record,
+    };
+    let certificate = unwanted(Record::Certificate);
+    assert_eq!(failing(&two_counters(), &first_certificate()), certificate);
+    assert_eq!(failing(&loop_p(), &argument), certificate);
+    let looped = unwanted(Record::Loop);
+    assert_eq!(bound(&two_counters(), &argument, &[1, 1]), Err(looped));
+    assert_eq!(bound(&loop_p(), &argument, &[1, 1]), Err(certificate));
+    let neither = unwanted(Record::Neither);
+    assert_eq!(read_loop(&two_counters(), &mut []), Err(neither));
+    assert_eq!(read_certificate(&argument, 2, 3, &mut []), Err(neither));
+    assert_eq!(write_record(5, 2, 3, &[], &mut []), Err(neither));
+    assert_eq!(sheet_text(&two_counters()), "loop refused 4 4\n");
+    let text = sheet_text(&[loop_p(), argument].concat());
+    assert_eq!(text, "loop 2 3\n1 refused 4 4\n");
 }
 
 #[test]

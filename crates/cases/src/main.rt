@@ -103,7 +103,7 @@ fn judge(name: &[u8], line: &[u8], from: usize)
     let a = first.count;
     let b = second.count;
     let list = cases_lines::places(given.size, 32);
-    let v = judge::judge(
+    let v = judge_by_kind::judge(
         cases_lines::bytes_of(&looped, a),
         cases_lines::bytes_of(&certificate, b),
         cases_lines::places_of(&mut rank, list),

@@ -27,7 +27,7 @@ fit-row n r h =
     (fit-append (replicate n entry) (r .next) (fit-same entry n (r .next) (h .next-in))
     (fit-cons right-side (h .right-in) fit-none))
 
-fit-rows : (n : ℕ) (rs : List Row) → Each (Row-in n) rs → Fit (rowsOf n (length rs)) (rows-values rs)
+pub fit-rows : (n : ℕ) (rs : List Row) → Each (Row-in n) rs → Fit (rowsOf n (length rs)) (rows-values rs)
 unfolding rowsOf rows-values Each
 fit-rows n [] h = fit-none
 fit-rows n (r ∷ rs) h = fit-append (row n) (row-values r) (fit-row n r (h .0)) (fit-rows n rs (h .1))

@@ -13,7 +13,7 @@ ghost use Rattle.record_faults.specs.RunsOf.{field-of, wide-of};
 
 // ---- one field
 
-fn between(x: usize, least: usize, most: usize) -> bool
+pub fn between(x: usize, least: usize, most: usize) -> bool
     ensures { λ r. ⌜ r ≡ within (least to most) (pos x) ⌝ }
 {
     least <= x && x <= most
@@ -169,7 +169,7 @@ fn entries_fault(bytes: &[u8], place: usize, count: usize) -> usize
     }
 }
 
-fn directions_fault(bytes: &[u8], place: usize, count: usize) -> usize
+pub fn directions_fault(bytes: &[u8], place: usize, count: usize) -> usize
     requires { ⌜ place + count * 4 ≤ length (now bytes) ⌝ }
     ensures { λ r. ⌜ r ≡ fault (replicate count direction) (now (bytes .entry)) place ⌝ }
 {
@@ -191,7 +191,7 @@ pub fn multipliers_fault(bytes: &[u8], place: usize, count: usize) -> usize
     }
 }
 
-fn right_side_fault(bytes: &[u8], place: usize) -> usize
+pub fn right_side_fault(bytes: &[u8], place: usize) -> usize
     requires { ⌜ place + 4 ≤ length (now bytes) ⌝ }
     ensures { λ r. ⌜ r ≡ fault (right-side ∷ []) (now (bytes .entry)) place ⌝ }
 {

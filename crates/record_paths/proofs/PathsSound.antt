@@ -12,8 +12,9 @@ use borrow.Author.Tests.{leb-true, ltb-true, eqb-true}
 use Rattle.endian.specs.Numbers.{littleAt}
 use Rattle.refusal.specs.Places.{Throughout, before-failing}
 use Rattle.refusal.specs.Tests.{done, first}
+use Rattle.refusal.proofs.FaultLaws.{Named}
 use Rattle.refusal.proofs.PlaceLaws.{holds-before}
-use Rattle.refusal.proofs.TestLaws.{Passes, done-passes}
+use Rattle.refusal.proofs.TestLaws.{Passes, done-passes, zero-done}
 use Rattle.record.specs.Fields.{values, in-range}
 use Rattle.record.specs.Layouts.{variable-count, row-count, rowsOf}
 use Rattle.record.specs.Ranges.{variables, rows}
@@ -85,6 +86,11 @@ paths-say bytes h =
 pub paths-sound : (bytes : List ℕ) → first sound-paths (bytes-alone bytes) ≡ done → PathsSound bytes
 paths-sound bytes told = paths-say bytes (done-passes sound-paths (bytes-alone bytes) told)
 
+-- 0 is told of a sound record alone
+pub paths-named : (bytes : List ℕ) → Named (first sound-paths (bytes-alone bytes))
+unfolding sound-paths is-kind holds-counts is-long fields-fit
+paths-named bytes = zero-done sound-paths (bytes-alone bytes) refl
+
 -- ---- kind 6
 
 pub record LexicographicSound (c : Counted) (bytes : List ℕ) : Type 0 where
@@ -140,3 +146,7 @@ module _ (c : Counted) (bytes : List ℕ) where
 
   pub lexicographic-sound : first (sound-lexicographic c) (bytes-alone bytes) ≡ done → LexicographicSound c bytes
   lexicographic-sound told = lexicographic-says (done-passes (sound-lexicographic c) (bytes-alone bytes) told)
+
+  pub lexicographic-named : Named (first (sound-lexicographic c) (bytes-alone bytes))
+  unfolding sound-lexicographic is-kind holds-counts is-long fields-fit
+  lexicographic-named = zero-done (sound-lexicographic c) (bytes-alone bytes) refl

@@ -10,7 +10,7 @@ ghost use mathlib.Core.Path.{_≡_};
 ghost use Rattle.record.specs.Readers.{loop-reader, certificate-reader, reads, fills};
 ghost use Rattle.record.specs.Writers.{writer, writes, room-after};
 ghost use Rattle.verdict.specs.Bounding.{bounds, bound-of};
-ghost use Rattle.verdict.specs.Judging.{judges, rank-after, judge-of};
+ghost use Rattle.verdict_paths.specs.JudgingByLoop.{judged, rank-judged};
 ghost use Rattle.sheet_text.specs.Sheets.{sheet-answers, room-after as text-after};
 ghost use Rattle.rip.specs.Flat.{flat-reading, flat-writing, told, flat-verdict, flat-bounded};
 
@@ -181,10 +181,10 @@ pub extern "C" fn cushiedoo_judge(
     certificate: &[u8],
     rank: &mut [i64],
 ) -> FlatVerdict
-    ensures { λ r. ⌜ r ≡ flat-verdict (judges (judge-of (now (loopbytes .entry)) (now (certificate .entry)) (now (rank .entry)))) ⌝ }
-    ensures { λ _. ⌜ now (rank .exit) ≡ rank-after (judge-of (now (loopbytes .entry)) (now (certificate .entry)) (now (rank .entry))) (now (rank .entry)) ⌝ }
+    ensures { λ r. ⌜ r ≡ flat-verdict (judged (now (loopbytes .entry)) (now (certificate .entry)) (now (rank .entry))) ⌝ }
+    ensures { λ _. ⌜ now (rank .exit) ≡ rank-judged (now (loopbytes .entry)) (now (certificate .entry)) (now (rank .entry)) ⌝ }
 {
-    flat_verdict(judge::judge(loopbytes, certificate, rank))
+    flat_verdict(judge_by_kind::judge(loopbytes, certificate, rank))
 }
 
 // Tells how many steps a loop can take from a state, by a certificate that has a rank.

@@ -24,9 +24,9 @@ use Rattle.verdict.specs.Claims.{ranking-claim, exclusion-claim, lasso-c
 use Rattle.verdict.specs.Pairs.{Pair, kind-of, variables-of, claim, conditions, rank-of, outcome-of}
 use Rattle.verdict.specs.declared.Outcome.{Outcome}
 use Rattle.verdict.specs.declared.Outcome.the-variants.{Ranking, Exclusion, Lasso}
-use Rattle.verdict.specs.Stages.{Said, agreed, refusal, said, shows, verdict-of}
+use Rattle.verdict.specs.Stages.{agreed, said, shows, verdict-of}
 use Rattle.verdict.proofs.ConditionLaws.{conditions-ranking, conditions-exclusion, conditions-lasso, conditions-named}
-use Rattle.verdict.proofs.StageLaws.{Agrees, agrees-said, said-agrees, number-said, Named, zero-agreed}
+use Rattle.verdict.proofs.StageLaws.{Agrees, agrees-said, said-agrees, number-said, verdict-number, Named, zero-agreed}
 
 -- both records of a pair are sound
 pub record Both-sound (p : Pair) : Type 0 where
@@ -55,15 +55,11 @@ judging-named j = (zero-done sound (j .records .loop-is) refl, (zero-done sound 
 
 -- 0 is told exactly when every stage is done
 pub accepts-agrees : (j : Judging) → (judges j .number ≡ 0) ↔ Agrees judging j
-unfolding judges verdict-of
+unfolding judges
 accepts-agrees j = (
-  λ h. said-agrees judging j (zero-agreed judging j (judging-named j) (number-is (said judging j) _ ∙ h)),
-  λ h. sym (number-is (said judging j) _) ∙ ap number-said (agrees-said judging j h),
+  λ h. said-agrees judging j (zero-agreed judging j (judging-named j) (verdict-number (said judging j) _ ∙ h)),
+  λ h. sym (verdict-number (said judging j) _) ∙ ap number-said (agrees-said judging j h),
 )
-  where
-    number-is : (s : Said) (o : Outcome) → number-said s ≡ verdict-of s o .number
-    number-is agreed o = refl
-    number-is (refusal a k p) o = refl
 
 -- room for the rank, which kinds 2 and 4 need
 pub room-there : (j : Judging) → has-rank (kind-of (j .records)) ≡ true → (first rank-room j ≡ done) ↔ (variables-of (j .records) ≤ j .room)

@@ -40,7 +40,7 @@ use Rattle.verdict.proofs.PartsInRange.{ranking-parts, exclusion-parts,
 
 -- ---- what the ranges give
 
-nonneg-all : (zs : List ℤ) → Each (In multipliers) zs → Each NonNeg zs
+pub nonneg-all : (zs : List ℤ) → Each (In multipliers) zs → Each NonNeg zs
 unfolding multipliers _to_
 nonneg-all zs h = each-then (In multipliers) NonNeg zs (λ z in-range. in-range .least) h
 

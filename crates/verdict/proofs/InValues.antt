@@ -67,7 +67,7 @@ rows-back n (r ∷ rs) rest h =
     rw (append-assoc, ← length-step, ← drop-drop (length rs * (n + n + 1)) (n + n + 1) (row-values r ++ more), here .0, here .1, here .2, after) (ap (λ (l : List Row). r ∷ l) (there .0), there .1)
 
 -- the four kinds
-loop-back : (n m : ℕ) (rs : List Row) → Rows-in n m rs → rows-from n m (rows-values rs) ≡ rs
+pub loop-back : (n m : ℕ) (rs : List Row) → Rows-in n m rs → rows-from n m (rows-values rs) ≡ rs
 loop-back n m rs h = rw (← h .counted, ← append-nil (rows-values rs)) (rows-back n rs [] (h .each) .0)
 
 ranking-back : (m : ℕ) (Y Z : List ℤ) → Ranking-in m Y Z → ranking-from m (ranking-values Y Z) ≡ record { Y = Y; Z = Z }

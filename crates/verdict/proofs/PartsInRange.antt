@@ -38,7 +38,7 @@ natural least most (negsuc n) h = absurd (h .least .le)
 
 -- ---- rows
 
-rows-fit : (n m : ℕ) (gs : List Field) (zs : List ℤ) → Fit (rowsOf n m ++ gs) zs → Rows-in n m (rows-from n m zs) × Fit gs (drop (m * (n + n + 1)) zs)
+pub rows-fit : (n m : ℕ) (gs : List Field) (zs : List ℤ) → Fit (rowsOf n m ++ gs) zs → Rows-in n m (rows-from n m zs) × Fit gs (drop (m * (n + n + 1)) zs)
 unfolding rowsOf rows-from row Each entry right-side
 rows-fit n zero gs zs h = (record { counted = refl; each = tt }, rw zero-mul h)
 rows-fit n (suc m) gs zs h =

@@ -5,7 +5,8 @@ use mathlib.Core.List.{List, [], _∷_}
 use native.Mathlib.Omega.{arith}
 use Rattle.refusal.specs.Tests.{Told, done, refused, number}
 use Rattle.refusal.proofs.TestLaws.{never}
-use Rattle.verdict.specs.Stages.{Said, agreed, refusal, Stage, _says_, said}
+use Rattle.verdict.specs.Stages.{Said, agreed, refusal, Stage, _says_, said, verdict-of}
+use Rattle.verdict.specs.declared.Outcome.{Outcome}
 
 -- done or refused
 pub by-told : {X : Type 0} (t : Told) → (t ≡ done → X) → ((k p : ℕ) → t ≡ refused k p → X) → X
@@ -55,6 +56,12 @@ module _ {I : Type 0} where
 abbrev pub number-said : Said → ℕ
 number-said agreed = 0
 number-said (refusal about number place) = number
+
+-- which is that of the verdict
+pub verdict-number : (s : Said) (o : Outcome) → number-said s ≡ verdict-of s o .number
+unfolding verdict-of
+verdict-number agreed o = refl
+verdict-number (refusal a k p) o = refl
 
 module _ {I : Type 0} where
   -- each stage tells 0 only when it is done

@@ -28,7 +28,7 @@ use Rattle.verdict.proofs.BoundAnswers.{number-bounded}
 use Rattle.verdict.proofs.ClaimAnswers.{judged-fails, bounded-fails}
 use Rattle.verdict.proofs.ConditionLaws.{claim-told-exactly, told-exactly-conditions, conditions-silent}
 use Rattle.verdict.proofs.StatesInRange.{State-in, state-fits}
-use Rattle.verdict.proofs.StageLaws.{number-said, stage-passed, stage-tells, silent-said}
+use Rattle.verdict.proofs.StageLaws.{number-said, verdict-number, stage-passed, stage-tells, silent-said}
 
 -- what a refusal of judging by a condition says of the call
 pub record Judging-fails (j : Judging) (number place : ℕ) : Type 0 where
@@ -47,7 +47,7 @@ pub record Bounding-fails (b : Bounding) (number place : ℕ) : Type 0 where
 
 module _ {I : Type 0} where
   -- no test of the list tells more
-  abbrev at-most : ℕ → List (Test I) → Bool
+  abbrev pub at-most : ℕ → List (Test I) → Bool
   at-most most [] = true
   at-most most ((k at p unless t) ∷ ts) = leb k most && at-most most ts
 
@@ -60,12 +60,12 @@ module _ {I : Type 0} where
       (λ e. rw (passed k p t ts i e) (number-at-most most ts i (parts .1)))
       (λ e. rw (failed k p t ts i e) (leb-true k most (parts .0)))
 
-  above : (k : ℕ) (ts : List (Test I)) (i : I) → 20 < k → at-most 20 ts ≡ true → number (first ts i) ≡ k → ⊥
+  pub above : (k : ℕ) (ts : List (Test I)) (i : I) → 20 < k → at-most 20 ts ≡ true → number (first ts i) ≡ k → ⊥
   above k ts i high ok h = omega (arith, number-at-most 20 ts i ok)
 
 -- ---- what an answer says of the stages
 
-said-so : (s : Said) (o : Outcome) (a k p : ℕ) → 0 < k → verdict-of s o ≡ refusal-of a k p → s ≡ refusal a k p
+pub said-so : (s : Said) (o : Outcome) (a k p : ℕ) → 0 < k → verdict-of s o ≡ refusal-of a k p → s ≡ refusal a k p
 unfolding verdict-of
 said-so agreed o a k p some h = absurd (let z : 0 ≡ k = ap (λ (v : Verdict). v .number) h in omega arith)
 said-so (refusal b n q) o a k p some h =
@@ -139,12 +139,8 @@ told-exactly-bounding b k p high = (
 -- ---- 8 is never told
 
 number-judged : (j : Judging) → number-said (said judging j) ≡ judges j .number
-unfolding judges verdict-of
-number-judged j = by-said (said judging j) _
-  where
-    by-said : (s : Said) (o : Outcome) → number-said s ≡ verdict-of s o .number
-    by-said agreed o = refl
-    by-said (refusal a k p) o = refl
+unfolding judges
+number-judged j = verdict-number (said judging j) _
 
 pub never-8 : (j : Judging) → judges j .number ≡ 8 → ⊥
 unfolding judging sound rank-room

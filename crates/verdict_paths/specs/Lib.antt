@@ -4,5 +4,9 @@ pub mod PathContents
 pub mod PathJudging
 -- what judging answers of every loop, by its kind
 pub mod JudgingByLoop
+-- loops and arguments within the limits, and the bytes that hold them
+pub mod PathValues
+-- two counters and ping-pong, as bytes
+pub mod PathSampleBytes
 -- one name that opens every definition, for tables
 pub mod JudgingComputing

@@ -52,7 +52,7 @@ fn close_sums(
 }
 
 /// Gives the pivot weight 1 and closes the sums, dropping weights as far as it must.
-fn settle_sums(
+pub(super) fn settle_sums(
     rows: &mut [Row],
     weights: &mut Vec<i64>,
     pivot: usize,

@@ -8,12 +8,17 @@ mod edges;
 mod exclusion;
 mod failing;
 mod lasso;
+mod lexicographic;
 mod ranking;
 
 pub use edges::{bring_to_edge, scale, slacken, Inequality};
 pub use exclusion::exclusion;
 pub use failing::{breakable, fail, places};
 pub use lasso::lasso;
+pub use lexicographic::{
+    bring_paths_to_edge, conditions_of, lexicographic, scale_argument, spoil, BuiltPaths,
+    Condition, PathSizes, Wrong,
+};
 pub use ranking::{ranking, steep_ranking};
 
 use crate::forms::Pair;

@@ -1,4 +1,5 @@
-//! The published conditions: ranking, exclusion and lasso over lists of rows, and the bound formula. No byte in sight.
+//! The published conditions: ranking, exclusion and lasso over lists of rows, and the bound formula. No byte in sight. Those of
+//! a loop with several paths stand in `lexicographic`.
 //!
 //! A condition that fails is told by its number, with the column or the row in which it fails, counted from 0, or 0 for
 //! right sides. All columns, or rows, of one condition come before the next condition.
@@ -63,7 +64,7 @@ pub fn dot(left: &[i64], right: &[i64]) -> i128 {
 }
 
 /// The sum over the rows of multiplier times a number of the row.
-fn weighted(multipliers: &[i64], rows: &[Row], of: impl Fn(&Row) -> i64) -> i128 {
+pub fn weighted(multipliers: &[i64], rows: &[Row], of: impl Fn(&Row) -> i64) -> i128 {
     multipliers
         .iter()
         .zip(rows)
@@ -94,7 +95,7 @@ impl Failing {
 }
 
 /// The first test that fails is told.
-fn first_of(failing: Vec<Refusal>) -> Result<(), Refusal> {
+pub fn first_of(failing: Vec<Refusal>) -> Result<(), Refusal> {
     match failing.first() {
         Some(refusal) => Err(*refusal),
         None => Ok(()),

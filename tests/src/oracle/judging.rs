@@ -2,7 +2,9 @@
 
 use super::conditions::{Exclusion, Lasso, Rank, Ranking, Row};
 use super::layout::{Kind, STATE};
-use super::record::{certificate_record, loop_record, Record, CERTIFICATES};
+use super::lexicographic::{Branches, Lexicographic};
+use super::paths::{lexicographic, path_loop, LEXICOGRAPHIC, PATH_LOOP};
+use super::record::{certificate_record, framed, loop_record, Record, CERTIFICATES};
 use super::{refuse, Refusal};
 
 /// What a record's values are, in the words of the conditions.
@@ -34,7 +36,7 @@ pub struct Bounded {
 }
 
 /// A refusal and the record that it speaks of: 1 loop, 2 certificate, 0 neither.
-type Refused = (u64, Refusal);
+pub type Refused = (u64, Refusal);
 
 fn of_record<T>(record: u64, result: Result<T, Refusal>) -> Result<T, Refused> {
     result.map_err(|refusal| (record, refusal))
@@ -50,20 +52,25 @@ fn refused((record, Refusal { number, place }): Refused) -> Verdict {
 }
 
 /// Takes the values of a record one part after another.
-struct Parts {
+pub struct Parts {
     values: std::vec::IntoIter<i64>,
 }
 
 impl Parts {
-    fn one(&mut self) -> i64 {
+    pub fn of(values: Vec<i64>) -> Parts {
+        let values = values.into_iter();
+        Parts { values }
+    }
+
+    pub fn one(&mut self) -> i64 {
         self.values.next().expect("the layout has as many values")
     }
 
-    fn list(&mut self, count: usize) -> Vec<i64> {
+    pub fn list(&mut self, count: usize) -> Vec<i64> {
         (0..count).map(|_| self.one()).collect()
     }
 
-    fn rows(&mut self, count: usize, n: usize) -> Vec<Row> {
+    pub fn rows(&mut self, count: usize, n: usize) -> Vec<Row> {
         let mut row = || Row {
             now: self.list(n),
             next: self.list(n),
@@ -75,18 +82,14 @@ impl Parts {
 
 /// The rows of a loop record.
 pub fn rows(record: Record) -> Vec<Row> {
-    let mut parts = Parts {
-        values: record.values.into_iter(),
-    };
+    let mut parts = Parts::of(record.values);
     parts.rows(record.shape.m, record.shape.n)
 }
 
 /// The parts of a certificate record.
 pub fn certificate(record: Record) -> Certificate {
     let (n, m, ms) = (record.shape.n, record.shape.m, record.shape.ms);
-    let mut parts = Parts {
-        values: record.values.into_iter(),
-    };
+    let mut parts = Parts::of(record.values);
     match record.shape.kind {
         Kind::Loop => unreachable!("a certificate has another kind"),
         Kind::Ranking => Certificate::Ranking(Ranking {
@@ -119,7 +122,7 @@ pub fn certificate(record: Record) -> Certificate {
     }
 }
 
-/// The two records, read: n, the rows and the certificate.
+/// The two records of a loop with one path, read: n, the rows and the certificate.
 fn both(
     loop_bytes: &[u8],
     certificate_bytes: &[u8],
@@ -216,11 +219,36 @@ fn judged(
     Ok(verdict)
 }
 
-pub fn judge(loop_bytes: &[u8], certificate_bytes: &[u8], list: &mut [i64]) -> Verdict {
-    judged(loop_bytes, certificate_bytes, list).unwrap_or_else(refused)
+/// The two records of a loop with several paths, read.
+pub fn paths_and_argument(
+    loop_bytes: &[u8],
+    certificate_bytes: &[u8],
+) -> Result<(Branches, Lexicographic), Refused> {
+    let branches = of_record(1, path_loop(loop_bytes))?;
+    let argument = of_record(2, lexicographic(certificate_bytes, &branches))?;
+    Ok((branches, argument))
 }
 
-/// Loop, certificate (kind 3 gives 4), 10, 9, the conditions, 11.
+/// The loop record, then the certificate, then the conditions. No rank list is asked for or filled.
+fn judged_paths(loop_bytes: &[u8], certificate_bytes: &[u8]) -> Result<Verdict, Refused> {
+    let (branches, argument) = paths_and_argument(loop_bytes, certificate_bytes)?;
+    of_record(2, argument.judged(&branches))?;
+    Ok(Verdict {
+        outcome: LEXICOGRAPHIC,
+        ..Verdict::default()
+    })
+}
+
+/// Kinds 5 and 6 are judged only together, so the loop's kind says how.
+pub fn judge(loop_bytes: &[u8], certificate_bytes: &[u8], list: &mut [i64]) -> Verdict {
+    let judged = match framed(loop_bytes) {
+        Ok(PATH_LOOP) => judged_paths(loop_bytes, certificate_bytes),
+        _ => judged(loop_bytes, certificate_bytes, list),
+    };
+    judged.unwrap_or_else(refused)
+}
+
+/// Loop (kind 5 gives 4), certificate (kinds 3 and 6 give 4), 10, 9, the conditions, 11.
 fn bounded(loop_bytes: &[u8], certificate_bytes: &[u8], state: &[i64]) -> Result<Bounded, Refused> {
     let (n, rows, certificate) =
         both(loop_bytes, certificate_bytes, &[Kind::Ranking, Kind::Lasso])?;

@@ -1,4 +1,5 @@
-//! Numbers and their ranges; the kinds of record and the fields of each, in layout order.
+//! Numbers and their ranges; the kinds of record that are read and written, and the fields of each, in layout order. Those
+//! of kinds 5 and 6 stand in `paths`.
 
 /// The least and the greatest number that a thing may be.
 #[derive(Clone, Copy, Debug, PartialEq, Eq)]
@@ -31,6 +32,11 @@ pub const MULTIPLIER: Range = Range::new(0, 60_000);
 pub const SCALE: Range = Range::new(1, 60_000);
 /// Entries of U, V, W.
 pub const DIRECTION: Range = Range::new(-60_000, 60_000);
+/// Paths of a loop, components of a lexicographic argument.
+pub const PATHS: Range = Range::new(1, 8);
+pub const COMPONENTS: Range = Range::new(1, 8);
+/// How far a component falls: δ of kind 6.
+pub const FALL: Range = Range::new(1, 1_000_000);
 /// State entries.
 pub const STATE: Range = Range::new(-1_000_000, 1_000_000);
 
@@ -87,14 +93,15 @@ const fn field(form: Form, range: Range) -> Field {
     Field { form, range }
 }
 
-const AN_ENTRY: Field = field(Form::I16, ENTRY);
-const A_RIGHT: Field = field(Form::I32, RIGHT);
-const A_MULTIPLIER: Field = field(Form::U16, MULTIPLIER);
+pub const AN_ENTRY: Field = field(Form::I16, ENTRY);
+pub const A_RIGHT: Field = field(Form::I32, RIGHT);
+pub const A_MULTIPLIER: Field = field(Form::U16, MULTIPLIER);
 const A_SCALE: Field = field(Form::U16, SCALE);
-const A_DIRECTION: Field = field(Form::I32, DIRECTION);
+pub const A_DIRECTION: Field = field(Form::I32, DIRECTION);
 const A_ROW_COUNT: Field = field(Form::U16, ROWS);
+pub const A_FALL: Field = field(Form::I32, FALL);
 
-/// The kinds of record.
+/// The kinds of record that are read and written.
 #[derive(Clone, Copy, Debug, PartialEq, Eq)]
 pub enum Kind {
     Loop,

@@ -7,9 +7,13 @@
 pub mod conditions;
 pub mod judging;
 pub mod layout;
+pub mod lexicographic;
+pub mod paths;
 pub mod record;
 pub mod sheet;
 
+#[cfg(test)]
+mod path_samples;
 #[cfg(test)]
 mod samples;
 

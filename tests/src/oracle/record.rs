@@ -1,6 +1,6 @@
 //! Records on file: reading and writing, with the paper's order of refusals.
 
-use super::layout::{Form, Kind, Shape, ROWS, VARIABLES};
+use super::layout::{Field, Form, Kind, Shape, ROWS, VARIABLES};
 use super::{refuse, Refusal};
 
 /// A record that was read: its shape and its values in layout order.
@@ -15,12 +15,12 @@ pub fn stated_length(bytes: &[u8]) -> usize {
     u32::from_le_bytes([bytes[0], bytes[1], bytes[2], bytes[3]]) as usize
 }
 
-fn count_at(bytes: &[u8], place: usize) -> i64 {
+pub fn count_at(bytes: &[u8], place: usize) -> i64 {
     Form::U16.read(bytes, place)
 }
 
-/// The first tests of a record: its bytes against the length that it states, and its kind against those wanted.
-fn frame(bytes: &[u8], wanted: &[Kind]) -> Result<Kind, Refusal> {
+/// The first tests of a record: its bytes against the length that it states. Tells the number of its kind.
+pub fn framed(bytes: &[u8]) -> Result<u64, Refusal> {
     if bytes.len() < 4 {
         return refuse(1, bytes.len());
     }
@@ -34,20 +34,25 @@ fn frame(bytes: &[u8], wanted: &[Kind]) -> Result<Kind, Refusal> {
     if bytes.len() > 4 + length {
         return refuse(2, 4 + length);
     }
-    match Kind::of(count_at(bytes, 4) as u64) {
+    Ok(count_at(bytes, 4) as u64)
+}
+
+/// The same, and the kind against those wanted.
+fn frame(bytes: &[u8], wanted: &[Kind]) -> Result<Kind, Refusal> {
+    match Kind::of(framed(bytes)?) {
         Some(kind) if wanted.contains(&kind) => Ok(kind),
         _ => refuse(4, 4),
     }
 }
 
-/// The tests after the counts: L against its formula, then the values.
-fn body(bytes: &[u8], shape: Shape) -> Result<Record, Refusal> {
-    if stated_length(bytes) != shape.length() {
-        return refuse(3, 0);
-    }
+/// The values of these fields, the first of them at a place; one that is out of range is told.
+pub fn values_from(
+    bytes: &[u8],
+    mut place: usize,
+    fields: Vec<Field>,
+) -> Result<Vec<i64>, Refusal> {
     let mut values = Vec::new();
-    let mut place = shape.kind.values_place();
-    for field in shape.fields() {
+    for field in fields {
         let value = field.form.read(bytes, place);
         if !field.range.holds(value) {
             return refuse(6, place);
@@ -55,6 +60,15 @@ fn body(bytes: &[u8], shape: Shape) -> Result<Record, Refusal> {
         values.push(value);
         place += field.form.width();
     }
+    Ok(values)
+}
+
+/// The tests after the counts: L against its formula, then the values.
+fn body(bytes: &[u8], shape: Shape) -> Result<Record, Refusal> {
+    if stated_length(bytes) != shape.length() {
+        return refuse(3, 0);
+    }
+    let values = values_from(bytes, shape.kind.values_place(), shape.fields())?;
     Ok(Record { shape, values })
 }
 

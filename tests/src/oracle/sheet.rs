@@ -8,7 +8,7 @@ use super::Refusal;
 pub const LONGEST_INPUT: usize = 65_536;
 
 /// Parts the next record from the bytes left: one with fewer than 4 bytes, L < 2 or too few bytes takes all the rest.
-fn part(rest: &[u8]) -> (&[u8], &[u8]) {
+pub fn part(rest: &[u8]) -> (&[u8], &[u8]) {
     if rest.len() < 4 {
         return (rest, &[]);
     }

@@ -1,0 +1,2 @@
+pub mod KindWays
+pub mod OneAnswer

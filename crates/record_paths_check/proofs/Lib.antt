@@ -1,0 +1,5 @@
+pub mod FieldFaults
+pub mod PathWalks
+pub mod OrderWays
+pub mod PathWays
+pub mod ArgumentWays
