@@ -1,0 +1,6 @@
+-- the rise, in 02's words and as weighted rows
+pub mod SettlingParts
+-- the tests and the conditions say the same, and tell exactly the first that fails
+pub mod SettlingDecisions
+-- what is told, condition after condition
+pub mod SettlingInOrder
