@@ -4,3 +4,5 @@ pub mod SettlingParts
 pub mod SettlingDecisions
 -- what is told, condition after condition
 pub mod SettlingInOrder
+-- the promise of a settling
+pub mod SettlingTheorems

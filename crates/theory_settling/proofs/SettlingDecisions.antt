@@ -11,7 +11,7 @@ use Rattle.theory.proofs.Decisions.{Weighed-order, weighed-decides, ranking-dec
 use Rattle.theory.proofs.Orders.{Decides, both, seen, changed, decided, told-exactly}
 use Rattle.theory_settling.specs.Settlings.{Settling, SettlingHolds, rising, longer}
 use Rattle.theory_settling.specs.SettlingConditions.{rise, ranked, settlingTests, settlingTold}
-use Rattle.theory_settling.specs.SettlingFails.{EA-rises, EA′-rises, Eb-within, Rises, SettlingFails, fails-61, fails-62, fails-63, fails-ranked}
+use Rattle.theory_settling.specs.SettlingFails.{EA-rises, EA′-rises, Eb-within, SettlingFails, fails-61, fails-62, fails-63, fails-ranked}
 use Rattle.theory_settling.proofs.SettlingParts.{rise-next}
 
 module _ (loop : Loop) (c : Settling) where
