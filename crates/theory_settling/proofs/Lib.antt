@@ -6,3 +6,5 @@ pub mod SettlingDecisions
 pub mod SettlingInOrder
 -- the promise of a settling
 pub mod SettlingTheorems
+-- theorems about the samples, and the tables
+pub mod SettlingSampleTheorems
