@@ -1,5 +1,5 @@
--- A loop with a row added at its end, where what every step keeps gives that row: from states where it holds, the runs of the loop are runs of the
--- longer loop, so a ranking of the longer loop bounds them. A lasso's invariant and a settling's threshold are two uses.
+-- A loop with a row added at its end, where what every step keeps gives that row: from states where it holds, the runs of the loop are
+-- runs of the longer loop, so a ranking of the longer loop bounds them. A lasso's invariant and a settling's threshold are two uses.
 use Prim.Native.Nat.{ℕ}
 use mathlib.Core.List.{List, [], _∷_}
 use native.Mathlib.Omega.{arith}

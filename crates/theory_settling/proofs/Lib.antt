@@ -8,3 +8,5 @@ pub mod SettlingInOrder
 pub mod SettlingTheorems
 -- theorems about the samples, and the tables
 pub mod SettlingSampleTheorems
+-- what is in the definitions, and what is not
+pub mod SettlingPins

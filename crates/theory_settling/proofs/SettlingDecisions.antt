@@ -1,5 +1,5 @@
--- The tests and the conditions of a settling say the same: the order of tests is done exactly when the conditions hold (`settling-decided`),
--- and otherwise it tells exactly the first that fails (`told-exactly-settling`).
+-- The tests and the conditions of a settling say the same: the order of tests is done exactly when the conditions hold
+-- (`settling-decided`), and otherwise it tells exactly the first that fails (`told-exactly-settling`).
 use Prim.Native.Nat.{ℕ}
 use mathlib.Core.Path.{_≡_, refl}
 use mathlib.Core.Logic.{_↔_, _⊎_, inl, inr}
@@ -11,7 +11,8 @@ use Rattle.theory.proofs.Decisions.{Weighed-order, weighed-decides, ranking-dec
 use Rattle.theory.proofs.Orders.{Decides, both, seen, changed, decided, told-exactly}
 use Rattle.theory_settling.specs.Settlings.{Settling, SettlingHolds, rising, longer}
 use Rattle.theory_settling.specs.SettlingConditions.{rise, ranked, settlingTests, settlingTold}
-use Rattle.theory_settling.specs.SettlingFails.{EA-rises, EA′-rises, Eb-within, SettlingFails, fails-61, fails-62, fails-63, fails-ranked}
+use Rattle.theory_settling.specs.SettlingFails.{EA-rises, EA′-rises, Eb-within, SettlingFails, fails-61, fails-62}
+use Rattle.theory_settling.specs.SettlingFails.{fails-63, fails-ranked}
 use Rattle.theory_settling.proofs.SettlingParts.{rise-next}
 
 module _ (loop : Loop) (c : Settling) where

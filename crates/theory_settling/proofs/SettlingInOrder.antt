@@ -12,7 +12,8 @@ use Rattle.theory_settling.specs.Settlings.{Settling, rising, longer}
 use Rattle.theory_settling.specs.SettlingConditions.{settlingTests, settlingTold}
 
 module _ (loop : Loop) (c : Settling) where
-  pub settling-in-order : settlingTold loop c ≡ (weighedTold 61 62 63 (loop .variables) (rising loop c) then rankingTold (longer loop c) (c .ranking))
+  pub settling-in-order : settlingTold loop c
+      ≡ (weighedTold 61 62 63 (loop .variables) (rising loop c) then rankingTold (longer loop c) (c .ranking))
   unfolding settlingTold settlingTests weighedTold rankingTold
   settling-in-order = simp (first-append, first-of)
 

@@ -1,5 +1,5 @@
--- Theorems about the samples. The curve has no linear rank that holds from the start, and yet no run of it is endless; its settling bound is
--- attained. And the tables of what is told and computed.
+-- Theorems about the samples. The curve has no linear rank that holds from the start, and yet no run of it is endless; its settling
+-- bound is attained. And the tables of what is told and computed.
 use mathlib.Core.Bool.{true}
 use mathlib.Core.Path.{_≡_, refl}
 use mathlib.Core.List.{List, [], _∷_, map}
@@ -70,7 +70,8 @@ pub curve-runs : Run curve (pos 0 ∷ pos 5 ∷ []) curve-run
 unfolding Run curve Each dot
 curve-runs = (search, (search, (search, (search, (search, (search, (search, (search, (search, (search, (search, (search, refl))))))))))))
 
-pub settling-bound-attained : (unsettled-steps curve-settles (pos 0 ∷ pos 5 ∷ []) curve-run ≡ 6) × (settling-bound curve-settles (pos 0 ∷ pos 5 ∷ []) ≡ 6)
+pub settling-bound-attained : (unsettled-steps curve-settles (pos 0 ∷ pos 5 ∷ []) curve-run ≡ 6)
+    × (settling-bound curve-settles (pos 0 ∷ pos 5 ∷ []) ≡ 6)
 unfolding computing
 settling-bound-attained = (refl, refl)
 

@@ -1,6 +1,6 @@
--- What a settling promises. The rise takes g·x up by 1 at least in every step, so from t <= g·x + n no more than n steps are taken before g·x has
--- reached t, and the settling bound is such an n. From there on every step also meets the added row, so the ranking of the longer loop bounds what
--- is left (`AddedRow`), and no run is endless.
+-- What a settling promises. The rise takes g·x up by 1 at least in every step, so from t <= g·x + n no more than n steps are taken
+-- before g·x has reached t, and the settling bound is such an n. From there on every step also meets the added row, so the ranking of
+-- the longer loop bounds what is left (`AddedRow`), and no run is endless.
 use Prim.Native.Nat.{ℕ, zero, suc, _≤_, zero-le}
 use mathlib.Core.Bool.{Bool, true, false, cond}
 use mathlib.Core.List.{List, [], _∷_}
@@ -16,8 +16,8 @@ use Rattle.theory.specs.Loops.{Loop, Meets, Step, Run, Endless}
 use Rattle.theory.specs.Rankings.{rank, start, fall, Bounds}
 use Rattle.theory.proofs.AddedRow.{meets-added, keeps-all, kept-bounds-runs}
 use Rattle.theory.proofs.Steps.{weighed-step}
-use Rattle.theory_settling.specs.Settlings.{Settling, NonNegativeSettling, SettlingHolds, SettlingPromise, Settled, added, longer, rising}
-use Rattle.theory_settling.specs.Settlings.{unsettled, unsettled-steps, settling-bound}
+use Rattle.theory_settling.specs.Settlings.{Settling, NonNegativeSettling, SettlingHolds, SettlingPromise, Settled}
+use Rattle.theory_settling.specs.Settlings.{added, longer, rising, unsettled, unsettled-steps, settling-bound}
 use Rattle.theory_settling.proofs.SettlingParts.{rise-weighs}
 
 -- the settling bound is enough: t <= g·x + settling-bound
@@ -87,7 +87,8 @@ module _ (loop : Loop) (c : Settling) (nonneg : NonNegativeSettling c) (k-positi
       by-value : (t a : ℤ) → t ≤ℤ a → pos 0 ≤ℤ (a +ℤ negℤ t)
       by-value t a s = solve-le (v (pos 0)) (v a ⊕ neg (v t)) (omega (arith, le-fact (v t) (v a) s))
 
-  pub settled-bounds-rest : Bounds loop (Settled c) (rank (longer loop c) (c .ranking)) (start (longer loop c) (c .ranking)) (fall (longer loop c) (c .ranking))
+  pub settled-bounds-rest : Bounds loop (Settled c)
+      (rank (longer loop c) (c .ranking)) (start (longer loop c) (c .ranking)) (fall (longer loop c) (c .ranking))
   settled-bounds-rest = kept-bounds-runs loop (Settled c) stays (added loop c) meets-threshold (c .ranking) (nonneg .1) (holds .ranked)
 
   -- ---- all steps
@@ -99,7 +100,8 @@ module _ (loop : Loop) (c : Settling) (nonneg : NonNegativeSettling c) (k-positi
   pub settling-ends : (state : ℕ → List ℤ) → Endless loop state → ⊥
   settling-ends state e = ends-within (settling-bound c (state 0)) state (within-reach c (state 0)) e
 
-  pub settling-promise : SettlingPromise loop c (rank (longer loop c) (c .ranking)) (start (longer loop c) (c .ranking)) (fall (longer loop c) (c .ranking))
+  pub settling-promise : SettlingPromise loop c
+      (rank (longer loop c) (c .ranking)) (start (longer loop c) (c .ranking)) (fall (longer loop c) (c .ranking))
   settling-promise =
       record {
         rises = settling-rises;

@@ -1,5 +1,5 @@
--- Loops and settlings, as lists of rows: a curve that climbs before it falls; one in which no two numbers of a form are alike; and loops that run
--- for ever, each with a settling that lacks one thing only.
+-- Loops and settlings, as lists of rows: a curve that climbs before it falls; one in which no two numbers of a form are alike; and
+-- loops that run for ever, each with a settling that lacks one thing only.
 use Prim.Native.Nat.{ℕ}
 use mathlib.Core.List.{List, [], _∷_, map}
 use lib.IntN.{ℤ, pos, negsuc}

@@ -1,5 +1,6 @@
--- What the conditions tell of the samples, of each condition where it alone fails, and of two neighbours in the order that both fail; the rank,
--- start and fall, and the bounds. A line is what is computed and what it has to be; `SettlingSampleTheorems` computes them.
+-- What the conditions tell of the samples, of each condition where it alone fails, and of two neighbours in the order that both
+-- fail; the rank, start and fall, and the bounds. A line is what is computed and what it has to be; `SettlingSampleTheorems`
+-- computes them.
 use Prim.Native.Nat.{ℕ}
 use mathlib.Core.List.{List, [], _∷_}
 use lib.IntN.{ℤ, pos, negsuc}
@@ -13,8 +14,9 @@ use Rattle.theory.specs.Samples.{row, ranking, upward}
 use Rattle.theory.specs.Table.{Numbers, numbers}
 use Rattle.theory_settling.specs.Settlings.{longer, unsettled, unsettled-steps, settling-bound}
 use Rattle.theory_settling.specs.SettlingConditions.{settlingTests, settlingTold}
-use Rattle.theory_settling.specs.SettlingSamples.{settling, curve, curve-by, curve-settles, curve-excluded, unlike-loop, unlike-settling}
-use Rattle.theory_settling.specs.SettlingSamples.{still, no-scale, at-most-one-up, E-below-nought, Y-below-nought, upward-idly, Z-below-nought}
+use Rattle.theory_settling.specs.SettlingSamples.{settling, curve, curve-by, curve-settles, curve-excluded, unlike-loop}
+use Rattle.theory_settling.specs.SettlingSamples.{unlike-settling, still, no-scale, at-most-one-up, E-below-nought}
+use Rattle.theory_settling.specs.SettlingSamples.{Y-below-nought, upward-idly, Z-below-nought}
 
 -- one row with weight 1 for a rise of (1, -3) by k = 2, and a ranking of zeros but for Y's first, which is for that row
 abbrev rise-by : List ℤ → List ℤ → ℤ → ℕ → Told
@@ -104,8 +106,8 @@ settling-bounds =
 -- opens all that the tables compute with
 unfoldable pub computing : Unit {0}
 unfolding
-    told computed settling-bounds settlingTold settlingTests exclusionTold exclusionTests rankingTests weighedTests _at-each_unless_ of first
-    tabulate sum dot scale add less rank start fall bound unsettled unsettled-steps settling-bound step-is-whole all-divided divides
+    told computed settling-bounds settlingTold settlingTests exclusionTold exclusionTests rankingTests weighedTests _at-each_unless_ of
+    first tabulate sum dot scale add less rank start fall bound unsettled unsettled-steps settling-bound step-is-whole all-divided divides
     curve curve-settles curve-excluded unlike-loop unlike-settling
     still no-scale at-most-one-up E-below-nought upward Y-below-nought upward-idly Z-below-nought
 computing = tt
