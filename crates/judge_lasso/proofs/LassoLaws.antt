@@ -8,14 +8,13 @@ use lib.IntN.{ℤ, pos, negℤ, _-ℤ_, _*ℤ_, +ℤ-idr}
 use Rattle.refusal.specs.Faults.{fault-of}
 use Rattle.refusal.specs.Tests.{done, refused, _then_}
 use Rattle.refusal.specs.declared.Fault.{Fault}
-use Rattle.refusal.proofs.FaultLaws.{Named, named-then, named-each, named-once}
+use Rattle.refusal.proofs.FaultLaws.{Named}
 use Rattle.endian.specs.Numbers.{littleAt}
 use Rattle.judge_sums.specs.Places.{rightAt, RowsIn}
 use Rattle.theory.specs.Conditions.{weighedTold, rankingTold, lassoTold}
 use Rattle.theory.specs.Lassos.{Lasso, longer, starting, keeping}
 use Rattle.theory.specs.Loops.{Loop}
-use Rattle.theory.specs.WeightedRows.{Weighted}
-use Rattle.theory.proofs.InOrder.{weighed-in-order, lasso-in-order}
+use Rattle.theory.proofs.InOrder.{weighed-named, lasso-in-order}
 use Rattle.judge_ranking.specs.RankedBy.{RankingBy}
 use Rattle.judge_ranking.specs.declared.Ranked.{Ranked}
 use Rattle.judge_ranking.proofs.RankedLaws.{shows-nothing}
@@ -62,11 +61,6 @@ unfolding lasso-held weighted-held loop-held
 kept-as rows start bytes n m ms h0 k2 r h-is k-is e = e ∙ rw (h-is, k-is)
 
 -- what is told of them is told by a number of its own
-weighed-named : (over-A over-A′ over-b n : ℕ) (w : Weighted) → (over-A ≡ 0 → ⊥) → (over-A′ ≡ 0 → ⊥) → (over-b ≡ 0 → ⊥) → Named (weighedTold over-A over-A′ over-b n w)
-weighed-named over-A over-A′ over-b n w now-some next-some right-some =
-    rw (weighed-in-order over-A over-A′ over-b n w)
-    (named-then _ _ (named-each over-A n _ now-some) (named-then _ _ (named-each over-A′ n _ next-some) (named-once over-b _ right-some)))
-
 pub start-named : (n : ℕ) (c : Lasso) → Named (weighedTold 41 42 43 n (starting c))
 start-named n c = weighed-named 41 42 43 n (starting c) (λ e. omega arith) (λ e. omega arith) (λ e. omega arith)
 

@@ -58,7 +58,7 @@ module _ (loop : Loop) (c : Ranking) where
   ranking-numbered k p (fails-23 h i f) = inr (h, inr (i, inl (refl, f)))
   ranking-numbered k p (fails-24 h i j f) = inr (h, inr (i, inr (j, (refl, refl, f))))
 
-  ranking-decides : Decides (rankingTests (loop .variables)) (record { loop = loop; values = c }) (RankingHolds loop c) (RankingFails loop c)
+  pub ranking-decides : Decides (rankingTests (loop .variables)) (record { loop = loop; values = c }) (RankingHolds loop c) (RankingFails loop c)
   unfolding rankingTests
   ranking-decides =
       changed

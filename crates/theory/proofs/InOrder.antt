@@ -1,13 +1,15 @@
--- What the tests of each kind tell, condition after condition: the shape in which code asks them.
+-- What the tests of each kind tell, condition after condition: the shape in which code asks them. And none of them tells 0.
 use Prim.Native.Nat.{ℕ}
 use mathlib.Core.Path.{_≡_, ap, ap₂, _∙_}
 use mathlib.Core.List.{List, [], _∷_, _++_}
+use native.Mathlib.Omega.{arith}
 use lib.IntN.{ℤ, pos, _+ℤ_, _*ℤ_}
 use lib.ListN.{length}
 use lib.Signed.{leZ, ltZ}
 use Rattle.refusal.specs.Tests.{Told, first, _then_, _at_unless_}
 use Rattle.refusal.specs.Places.{told-each, told-once}
 use Rattle.refusal.proofs.PlaceLaws.{first-append, first-once}
+use Rattle.refusal.proofs.FaultLaws.{Named, named-then, named-each, named-once}
 use Rattle.whole.specs.Same.{sameZ}
 use Rattle.whole.specs.Sums.{dot, sum, less}
 use Rattle.theory.specs.Loops.{Row, A, A′, b, Loop}
@@ -27,6 +29,13 @@ pub ranking-in-order : (loop : Loop) (c : Ranking)
 unfolding rankingTold rankingTests
 ranking-in-order loop c = simp (first-append, first-each, first-once)
 
+pub ranking-named : (loop : Loop) (c : Ranking) → Named (rankingTold loop c)
+ranking-named loop c =
+    rw (ranking-in-order loop c)
+    (named-then _ _ (named-each 21 _ _ (λ e. omega arith))
+    (named-then _ _ (named-each 22 _ _ (λ e. omega arith))
+    (named-then _ _ (named-each 23 _ _ (λ e. omega arith)) (named-once 24 _ (λ e. omega arith)))))
+
 pub exclusion-in-order : (loop : Loop) (c : Exclusion)
     → let p : Proposal Exclusion = record { loop = loop; values = c } in
     exclusionTold loop c
@@ -43,6 +52,11 @@ pub weighed-in-order : (over-A over-A′ over-b n : ℕ) (w : Weighted)
     then told-once over-b (leZ (sum-of w b) (w .limit)))
 unfolding weighedTold weighedTests
 weighed-in-order over-A over-A′ over-b n w = simp (first-append, first-each, first-once)
+
+pub weighed-named : (over-A over-A′ over-b n : ℕ) (w : Weighted) → (over-A ≡ 0 → ⊥) → (over-A′ ≡ 0 → ⊥) → (over-b ≡ 0 → ⊥) → Named (weighedTold over-A over-A′ over-b n w)
+weighed-named over-A over-A′ over-b n w now-some next-some right-some =
+    rw (weighed-in-order over-A over-A′ over-b n w)
+    (named-then _ _ (named-each over-A n _ now-some) (named-then _ _ (named-each over-A′ n _ next-some) (named-once over-b _ right-some)))
 
 pub lasso-in-order : (loop : Loop) (c : Lasso)
     → lassoTold loop c

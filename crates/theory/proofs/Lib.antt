@@ -1,6 +1,7 @@
 pub mod Steps
 pub mod RankingTheorems
 pub mod ExclusionTheorems
+pub mod AddedRow
 pub mod LassoParts
 pub mod LassoTheorems
 pub mod WeightTheorems

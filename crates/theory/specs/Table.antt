@@ -87,7 +87,7 @@ pub record Numbers : Type 0 where
   pub δ : ℤ
   pub at-x : ℕ
 
-abbrev numbers : Loop → Ranking → List ℤ → Numbers
+abbrev pub numbers : Loop → Ranking → List ℤ → Numbers
 numbers loop c x =
     record { r = rank loop c; δ0 = start loop c; δ = fall loop c; at-x = bound (rank loop c) (start loop c) (fall loop c) x }
 

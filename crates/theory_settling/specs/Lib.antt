@@ -4,3 +4,7 @@ pub mod Settlings
 pub mod SettlingConditions
 -- what a refusal by a condition says
 pub mod SettlingFails
+-- loops and settlings that theorems and the tables speak of
+pub mod SettlingSamples
+-- what is told of them, and what they compute
+pub mod SettlingTable
