@@ -8,11 +8,11 @@ use Rattle.refusal.specs.Tests.{Told, done, refused, first}
 use Rattle.whole.specs.Sums.{dot, sum, tabulate, scale, add, less}
 use Rattle.theory.specs.Conditions.{exclusionTold, exclusionTests, rankingTests, weighedTests, _at-each_unless_, of}
 use Rattle.theory.specs.Exclusions.{divides, all-divided, step-is-whole}
-use Rattle.theory.specs.Loops.{over}
+use Rattle.theory.specs.Loops.{Loop, over}
 use Rattle.theory.specs.Rankings.{rank, start, fall, bound}
 use Rattle.theory.specs.Samples.{row, ranking, upward}
 use Rattle.theory.specs.Table.{Numbers, numbers}
-use Rattle.theory_settling.specs.Settlings.{longer, unsettled, unsettled-steps, settling-bound}
+use Rattle.theory_settling.specs.Settlings.{Settling, longer, unsettled, unsettled-steps, settling-bound}
 use Rattle.theory_settling.specs.SettlingConditions.{settlingTests, settlingTold}
 use Rattle.theory_settling.specs.SettlingSamples.{settling, curve, curve-by, curve-settles, curve-excluded, unlike-loop}
 use Rattle.theory_settling.specs.SettlingSamples.{unlike-settling, still, no-scale, at-most-one-up, E-below-nought}
@@ -79,16 +79,14 @@ told =
     (settlingTold upward-idly Z-below-nought, done) ∷
     []
 
--- rank, start and fall of the longer loop, a state and the bound there
+-- rank, start and fall of the longer loop, and the bound at a state
+abbrev from-x : Loop → Settling → List ℤ → Numbers
+from-x loop c x = numbers (longer loop c) (c .ranking) x
+
 unfoldable pub computed : List (Numbers × Numbers)
 computed =
-    (
-      numbers (longer curve curve-settles) (curve-settles .ranking) (pos 15 ∷ negsuc 0 ∷ []),
-      record { r = pos 1 ∷ pos 0 ∷ []; δ0 = pos 0; δ = pos 1; at-x = 16 },
-    ) ∷ (
-      numbers (longer unlike-loop unlike-settling) (unlike-settling .ranking) (pos 2 ∷ pos 1 ∷ []),
-      record { r = pos 59 ∷ negsuc 36 ∷ []; δ0 = pos 17; δ = pos 21; at-x = 4 },
-    ) ∷
+    (from-x curve curve-settles (pos 15 ∷ negsuc 0 ∷ []), record { r = pos 1 ∷ pos 0 ∷ []; δ0 = pos 0; δ = pos 1; at-x = 16 }) ∷
+    (from-x unlike-loop unlike-settling (pos 2 ∷ pos 1 ∷ []), record { r = pos 59 ∷ negsuc 36 ∷ []; δ0 = pos 17; δ = pos 21; at-x = 4 }) ∷
     []
 
 -- t - g·x, and 0 if that is negative: below the threshold, one below, at it and past it
