@@ -1,4 +1,4 @@
--- What a refusal by a condition says of the loop and the settling (02, Q-8): which condition fails, at which column it fails first, and that
+-- What a refusal by a condition says of the loop and the settling (02, Q-8): which condition fails, at which column first, and that
 -- all before it hold. `told-exactly-settling` says that this and nothing else is told.
 use Prim.Native.Nat.{ℕ}
 use mathlib.Core.Path.{_≡_}

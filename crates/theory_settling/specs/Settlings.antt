@@ -70,7 +70,8 @@ unfoldable pub settling-bound : Settling → List ℤ → ℕ
 settling-bound c x = cond (unsettled c x) (natAbs (c .t -ℤ dot (c .g) x)) 0
 
 -- what a settling promises, with the rank, start and fall of the longer loop: g·x rises; from x, no more steps than that are taken from
--- states where g·x < t; from a state where g·x >= t, all further ones are such, and the ranking bounds the steps that are left; no run is endless
+-- states where g·x < t; from a state where g·x >= t, all further ones are such, and the ranking bounds the steps that are left; no run is
+-- endless
 pub record SettlingPromise (loop : Loop) (c : Settling) (r : List ℤ) (δ0 δ : ℤ) : Type 0 where
   pub rises : (x x′ : List ℤ) → Step loop 1 x x′ → (dot (c .g) x +ℤ pos 1) ≤ℤ dot (c .g) x′
   pub settles : (x : List ℤ) (ys : List (List ℤ)) → Run loop x ys → unsettled-steps c x ys ≤ settling-bound c x

@@ -5,7 +5,7 @@ use mathlib.Core.Path.{_≡_, refl}
 use lib.IntN.{ℤ, pos}
 use Rattle.verdict.specs.Outcomes.{Numbers, numbers, grade-number}
 use Rattle.verdict.specs.declared.Grade.the-variants.{Whole, Fractions}
-use Rattle.verdict.specs.declared.Outcome.the-variants.{Nothing, Ranking, Exclusion, Lasso, Lexicographic}
+use Rattle.verdict.specs.declared.Outcome.the-variants.{Nothing, Ranking, Exclusion, Lasso, Lexicographic, Settling}
 
 abbrev told : ℕ → ℤ → ℤ → ℕ → Numbers
 told kind start fall grade = record { kind = kind; start = start; fall = fall; grade = grade }
@@ -17,6 +17,7 @@ pub record OutcomesNumbered : Type 0 where
   pub excluded-fractions : numbers (Exclusion Fractions) ≡ told 3 (pos 0) (pos 0) 2
   pub lasso : (start fall : ℤ) → numbers (Lasso start fall) ≡ told 4 start fall 0
   pub lexicographic : numbers Lexicographic ≡ told 6 (pos 0) (pos 0) 0
+  pub settling : (start fall : ℤ) → numbers (Settling start fall) ≡ told 8 start fall 0
   pub whole : grade-number Whole ≡ 1
   pub fractions : grade-number Fractions ≡ 2
 
@@ -30,6 +31,7 @@ outcomes-numbered =
       excluded-fractions = refl;
       lasso = λ start fall. refl;
       lexicographic = refl;
+      settling = λ start fall. refl;
       whole = refl;
       fractions = refl;
     }

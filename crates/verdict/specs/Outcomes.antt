@@ -6,7 +6,7 @@ use Rattle.theory.specs.Exclusions as Exclusions
 use Rattle.verdict.specs.declared.Grade.{Grade}
 use Rattle.verdict.specs.declared.Grade.the-variants.{Whole, Fractions}
 use Rattle.verdict.specs.declared.Outcome.{Outcome}
-use Rattle.verdict.specs.declared.Outcome.the-variants.{Nothing, Ranking, Exclusion, Lasso, Lexicographic}
+use Rattle.verdict.specs.declared.Outcome.the-variants.{Nothing, Ranking, Exclusion, Lasso, Lexicographic, Settling}
 
 -- 1 whole, 2 fractions
 unfoldable pub grade-number : Grade → ℕ
@@ -26,6 +26,7 @@ numbers (Ranking start fall) = record { kind = 2; start = start; fall = fall; gr
 numbers (Exclusion grade) = record { kind = 3; start = pos 0; fall = pos 0; grade = grade-number grade }
 numbers (Lasso start fall) = record { kind = 4; start = start; fall = fall; grade = 0 }
 numbers Lexicographic = record { kind = 6; start = pos 0; fall = pos 0; grade = 0 }
+numbers (Settling start fall) = record { kind = 8; start = start; fall = fall; grade = 0 }
 
 -- 02, Q-7: "The grade is "whole" exactly when q divides every entry of W and of V."
 unfoldable pub grade-of : Exclusions.Exclusion → Grade

@@ -13,6 +13,7 @@ pub enum Outcome {
     Exclusion { grade: Grade },
     Lasso { start: i64, fall: i64 },
     Lexicographic,
+    Settling { start: i64, fall: i64 },
 }
 
 // The refusal number, its place, the record that it speaks of (1 loop, 2 certificate, 0 neither), and the outcome.

@@ -1,0 +1,1 @@
+// Records of kind 8 (02, Q-8).
