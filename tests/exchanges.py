@@ -2,13 +2,14 @@
 """Records in which no two numbers of one form are alike, and what judging answers when two of their fields, or two of their
 lists, are exchanged.
 
-    tests/exchanges.py table           the lines of the proved table
-    tests/exchanges.py check           whether crates/verdict_exchanges/specs/Exchanged.antt has these lines and no others
+    tests/exchanges.py table           the lines of the proved tables
+    tests/exchanges.py check           whether specs/Exchanged.antt of crates verdict_exchanges and verdict_paths_exchanges have these
+                                       lines and no others
     tests/exchanges.py sheet KIND      a sheet: the loop, the certificate of that kind, and every exchanged one
     tests/exchanges.py text KIND       the text that the sheet must have
 
-The places of the fields, and the answers, are worked out here from 01 alone: every pair of fields of one form and every
-pair of lists of one length is there, so that none is left out of the table. KIND is ranking, exclusion or lasso.
+The places of the fields, and the answers, are worked out here from 01 and 02 alone: every pair of fields of one form and every
+pair of lists of one length is there, so that none is left out of the tables. KIND is ranking, exclusion or lasso.
 """
 import itertools
 import os
@@ -34,6 +35,23 @@ LASSO = {
     "Y": [14, 12, 6, 15], "Z": [11, 8, 5, 19],
 }
 
+# 02, Q-3: a loop of two paths over one variable, each owning a component, and a loop of one path over two. A path is its rows (A, A', b), a
+# component r, δ0, δ, a part its component number and its lists: bounded, ranking, unaffecting
+PATHS = {
+    "n": 1,
+    "paths": [
+        [([-60], [-10], 10), ([22], [6], -2), ([13], [1], -3)],
+        [([-3], [57], -30), ([-17], [-43], 69), ([16], [-22], -24), ([4], [-4], -6)],
+    ],
+}
+ARGUMENT = {
+    "components": [([-14], 4, 14), ([-12], 12, 3)],
+    "parts": [(0, [[9, 11, 24], [6, 4, 22]]), (1, [[20, 16, 18, 14], [21, 17, 19, 15], [12, 10, 8, 23]])],
+}
+
+ONE_PATH = {"n": 2, "paths": [[([-4, -5], [0, -2], -2), ([8, 11], [1, 7], 1), ([4, 6], [-3, -8], 6)]]}
+ONE_ARGUMENT = {"components": [([-4, -13], 8, 1)], "parts": [(0, [[13, 6, 2], [12, 5, 3]])]}
+
 # ---- layouts: a list of (name, form, numbers) in 01's order, after length and kind
 
 WIDTH = {"u16": 2, "i16": 2, "i32": 4}
@@ -53,6 +71,16 @@ def layout(kind, c):
         return [("Y", "u16", c["Y"]), ("Z", "u16", c["Z"])]
     if kind == 3:
         return [("q", "u16", [c["q"]])] + [(name, "i32", c[name]) for name in "UVW"]
+    if kind == 5:
+        parts = [("n", "u16", [c["n"]]), ("paths", "u16", [len(c["paths"])])] + [("m", "u16", [len(p)]) for p in c["paths"]]
+        for path in c["paths"]:
+            parts += rows_layout(*zip(*path), ("A", "A'", "b"))
+        return parts
+    if kind == 6:
+        parts = [("components", "u16", [len(c["components"])])] + [("component", "u16", [k]) for k, _ in c["parts"]]
+        for r, start, fall in c["components"]:
+            parts += [("r", "i32", r), ("δ0", "i32", [start]), ("δ", "i32", [fall])]
+        return parts + [("weights", "u16", ys) for _, lists in c["parts"] for ys in lists]
     return (
         [("ms", "u16", [len(c["d"])])]
         + rows_layout(c["B"], c["B'"], c["d"], ("B", "B'", "d"))
@@ -66,8 +94,21 @@ def record(kind, c):
     return (2 + len(body)).to_bytes(4, "little") + kind.to_bytes(2, "little") + body
 
 
+def whole_parts(kind, c):
+    """The width of a row, or of a component, the place of the first, and how many there are."""
+    if kind in (1, 4):
+        rows = c.get("A") or c.get("B")
+        return 4 * len(rows[0]) + 4, {1: 10, 4: 8}[kind], len(rows)
+    if kind == 5:
+        return 4 * c["n"] + 4, 10 + 2 * len(c["paths"]), sum(map(len, c["paths"]))
+    if kind == 6:
+        return 4 * len(c["components"][0][0]) + 8, 8 + 2 * len(c["parts"]), len(c["components"])
+    return 0, 0, 0
+
+
 def pairs(kind, c):
-    """(width, first place, second place) of every two fields of one form, then of every two lists of one length and form, rows among them."""
+    """(width, first place, second place) of every two fields of one form, then of every two lists of one length and form, rows and
+    components among them."""
     fields, lists, at = [], [], 6
     for name, form, zs in layout(kind, c):
         if len(zs) > 1 or name in ("Y", "Z", "T", "H", "U", "V", "W", "s"):
@@ -75,9 +116,8 @@ def pairs(kind, c):
         for _ in zs:
             fields.append((form, at))
             at += WIDTH[form]
-    row = 4 * len((c.get("A") or c.get("B") or [[]])[0]) + 4
-    first = {1: 10, 4: 8}.get(kind)
-    rows = [("row", 1, first + row * i) for i in range(len(c.get("b") or c.get("d") or []))] if first else []
+    row, first, count = whole_parts(kind, c)
+    rows = [("row", 1, first + row * i) for i in range(count)]
     for (f, p), (g, q) in itertools.combinations(fields, 2):
         if f == g:
             yield WIDTH[f], p, q
@@ -105,8 +145,8 @@ def number(data, at, form):
     return z - 2 * half if form != "u16" and z >= half else z
 
 
-RANGE = {"entry": (-30000, 30000), "right": (-2000000000, 2000000000), "multiplier": (0, 60000), "scale": (1, 60000), "direction": (-60000, 60000)}
-FORM = {"entry": "i16", "right": "i32", "multiplier": "u16", "scale": "u16", "direction": "i32"}
+RANGE = {"entry": (-30000, 30000), "right": (-2000000000, 2000000000), "multiplier": (0, 60000), "scale": (1, 60000), "direction": (-60000, 60000), "fall": (1, 1000000)}
+FORM = {"entry": "i16", "right": "i32", "multiplier": "u16", "scale": "u16", "direction": "i32", "fall": "i32"}
 
 
 def take(data, at, what, count, about):
@@ -213,61 +253,149 @@ def judge(loop, certificate):
         return ("refused",) + refusal.args
 
 
-# ---- the table
+# ---- 02's judge of several paths
+
+
+def paths_of(data):
+    n, count = number(data, 6, "u16"), number(data, 8, "u16")
+    if not 1 <= n <= 16:
+        raise Refused(5, 6, 1)
+    if not 1 <= count <= 8:
+        raise Refused(5, 8, 1)
+    if len(data) - 4 < 6 + 2 * count:
+        raise Refused(3, 0, 1)
+    ms = [number(data, 10 + 2 * j, "u16") for j in range(count)]
+    for j, m in enumerate(ms):
+        if m > 64:
+            raise Refused(5, 10 + 2 * j, 1)
+    if len(data) - 4 != 6 + 2 * count + sum(ms) * (4 * n + 4):
+        raise Refused(3, 0, 1)
+    paths, at = [], 10 + 2 * count
+    for m in ms:
+        rows, at = take_rows(data, at, n, m, 1)
+        paths.append(rows)
+    return n, paths
+
+
+def argument_of(data, n, paths):
+    count = number(data, 6, "u16")
+    if not 1 <= count <= 8:
+        raise Refused(5, 6, 2)
+    owned = [number(data, 8 + 2 * j, "u16") for j in range(len(paths))]
+    for j, k in enumerate(owned):
+        if k >= count:
+            raise Refused(14, 8 + 2 * j, 2)
+    if len(data) - 4 != 4 + 2 * len(paths) + 4 * count * (n + 2) + sum(2 * len(p) * (2 + k) for p, k in zip(paths, owned)):
+        raise Refused(3, 0, 2)
+    components, lists, at = [], [], 8 + 2 * len(paths)
+    for _ in range(count):
+        r, at = take(data, at, "direction", n, 2)
+        (start,), at = take(data, at, "right", 1, 2)
+        (fall,), at = take(data, at, "fall", 1, 2)
+        components.append((r, start, fall))
+    for path, k in zip(paths, owned):
+        held = []
+        for _ in range(2 + k):
+            ys, at = take(data, at, "multiplier", len(path), 2)
+            held.append(ys)
+        lists.append(held)
+    return components, owned, lists
+
+
+def judge_paths(loop, certificate):
+    try:
+        n, paths = paths_of(loop)
+        components, owned, lists = argument_of(certificate, n, paths)
+        for j, (rows, k, (bounded, ranking, *unaffecting)) in enumerate(zip(paths, owned, lists)):
+            def weigh(ys, r, then, limit):
+                return (
+                    all(total(ys, column(rows, 0, i)) == -r[i] and total(ys, column(rows, 1, i)) == then * r[i] for i in range(n))
+                    and total(ys, [row[2] for row in rows]) <= limit
+                )
+            r, start, fall = components[k]
+            if not weigh(bounded, r, 0, -start):
+                raise Refused(51, j, 2)
+            if not weigh(ranking, r, 1, -fall):
+                raise Refused(52, j, 2)
+            if not all(weigh(ys, components[i][0], 1, 0) for i, ys in enumerate(unaffecting)):
+                raise Refused(53, j, 2)
+        return ("lexicographic",)
+    except Refused as refusal:
+        return ("refused",) + refusal.args
+
+
+# ---- the tables
 
 CASES = {
     "loop": (record(1, LOOP), record(2, RANKING), 1, 1, LOOP),
     "ranking": (record(1, LOOP), record(2, RANKING), 2, 2, RANKING),
     "exclusion": (record(1, ENDLESS_LOOP), record(3, EXCLUSION), 2, 3, EXCLUSION),
     "lasso": (record(1, LASSO_LOOP), record(4, LASSO), 2, 4, LASSO),
+    "paths": (record(5, PATHS), record(6, ARGUMENT), 1, 5, PATHS),
+    "argument": (record(5, PATHS), record(6, ARGUMENT), 2, 6, ARGUMENT),
+    "one-path": (record(5, ONE_PATH), record(6, ONE_ARGUMENT), 1, 5, ONE_PATH),
+    "one-argument": (record(5, ONE_PATH), record(6, ONE_ARGUMENT), 2, 6, ONE_ARGUMENT),
 }
+
+# the crates that have them
+TABLES = {
+    "verdict_exchanges": ("loop", "ranking", "exclusion", "lasso"),
+    "verdict_paths_exchanges": ("paths", "argument", "one-path", "one-argument"),
+}
+
+
+def answer(loop, certificate):
+    return (judge_paths if number(loop, 4, "u16") == 5 else judge)(loop, certificate)
 
 
 def judged(case, width, p, q):
     loop, certificate, which, _, _ = CASES[case]
     if which == 1:
-        return judge(exchanged(loop, width, p, q), certificate)
-    return judge(loop, exchanged(certificate, width, p, q))
+        return answer(exchanged(loop, width, p, q), certificate)
+    return answer(loop, exchanged(certificate, width, p, q))
 
 
 def whole(z):
     return f"(pos {z})" if z >= 0 else f"(− {-z})"
 
 
-def line(width, p, q, answer):
-    if answer[0] == "refused":
-        return f"({width} bytes-at {p} and {q} refused {answer[1]} at {answer[2]} of {answer[3]})"
-    if answer[0] == "excluded":
-        return f"({width} bytes-at {p} and {q} show Exclusion {answer[1].capitalize()})"
-    name = {"rank": "Ranking", "lasso": "Lasso"}[answer[0]]
-    return f"({width} bytes-at {p} and {q} show {name} {whole(answer[2])} {whole(answer[3])})"
+def line(width, p, q, told):
+    if told[0] == "refused":
+        return f"({width} bytes-at {p} and {q} refused {told[1]} at {told[2]} of {told[3]})"
+    if told[0] == "excluded":
+        return f"({width} bytes-at {p} and {q} show Exclusion {told[1].capitalize()})"
+    name = {"rank": "Ranking", "lasso": "Lasso"}[told[0]]
+    return f"({width} bytes-at {p} and {q} show {name} {whole(told[2])} {whole(told[3])})"
 
 
-def table():
-    for case in CASES:
+def table(cases):
+    for case in cases:
         yield f"{case}-exchanges ="
-        accepted = judge(*CASES[case][:2])
+        accepted = answer(*CASES[case][:2])
         assert accepted[0] != "refused", (case, accepted)
         lines = []
         for width, p, q in pairs(*CASES[case][3:]):
-            answer = judged(case, width, p, q)
-            assert answer != accepted, (case, width, p, q)
-            lines.append(line(width, p, q, answer))
+            told = judged(case, width, p, q)
+            assert told != accepted, (case, width, p, q)
+            lines.append(line(width, p, q, told))
         yield "    " + lines[0]
         yield from ("    ∷ " + l for l in lines[1:])
         yield "    ∷ []"
 
 
 def check():
-    path = os.path.join(os.path.dirname(__file__), "..", "crates", "verdict_exchanges", "specs", "Exchanged.antt")
-    with open(path, encoding="utf-8") as f:
-        have = f.read().splitlines()
-    have = [l for l in have if " bytes-at " in l or l.endswith("-exchanges =")]
-    want = [l for l in table() if l.strip() != "∷ []"]
-    for a, b in itertools.zip_longest(have, want):
-        if a != b:
-            sys.exit(f"{path}\nhas    {a}\nwanted {b}")
-    print(f"{sum(' bytes-at ' in l for l in want)} exchanges, none left out")
+    lines = 0
+    for crate, cases in TABLES.items():
+        path = os.path.join(os.path.dirname(__file__), "..", "crates", crate, "specs", "Exchanged.antt")
+        with open(path, encoding="utf-8") as f:
+            have = f.read().splitlines()
+        have = [l for l in have if " bytes-at " in l or l.endswith("-exchanges =")]
+        want = [l for l in table(cases) if l.strip() != "∷ []"]
+        for a, b in itertools.zip_longest(have, want):
+            if a != b:
+                sys.exit(f"{path}\nhas    {a}\nwanted {b}")
+        lines += sum(" bytes-at " in l for l in want)
+    print(f"{lines} exchanges, none left out")
 
 
 def records_of(case):
@@ -277,17 +405,17 @@ def records_of(case):
         yield exchanged(certificate, width, p, q)
 
 
-def words(count, answer):
-    if answer[0] == "refused":
-        return f"{count} refused {answer[1]} {answer[2]}"
-    if answer[0] == "excluded":
-        return f"{count} excluded {answer[1]}"
-    return f"{count} {answer[0]} {' '.join(map(str, answer[1]))} from {answer[2]} down {answer[3]}"
+def words(count, told):
+    if told[0] == "refused":
+        return f"{count} refused {told[1]} {told[2]}"
+    if told[0] == "excluded":
+        return f"{count} excluded {told[1]}"
+    return f"{count} {told[0]} {' '.join(map(str, told[1]))} from {told[2]} down {told[3]}"
 
 
 def main():
     if sys.argv[1:] == ["table"]:
-        print("\n".join(table()))
+        print("\n".join(table(CASES)))
     elif sys.argv[1:] == ["check"]:
         check()
     elif len(sys.argv) == 3 and sys.argv[1] == "sheet":

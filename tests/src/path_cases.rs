@@ -119,9 +119,10 @@ fn fail_a_condition(random: &mut Random, built: &mut BuiltPaths) {
         _ => random.below(n),
     };
     let by = random.pick(&[1, -1, 1000]);
-    let wrong = match random.below(3) {
-        0 => Wrong::Now(column, by),
-        1 => Wrong::Next(column, by),
+    let wrong = match random.below(10) {
+        0..=2 => Wrong::Now(column, by),
+        3..=5 => Wrong::Next(column, by),
+        6 => Wrong::Other,
         _ => Wrong::Right(by.abs()),
     };
     spoil(built, path, condition, wrong);

@@ -10,8 +10,11 @@ use crate::random::Random;
 pub fn damage_loop(random: &mut Random, shape: &LoopShape, bytes: &mut Vec<u8>) {
     match random.below(12) {
         0..=3 => damage_frame(random, bytes),
-        4 => cut_at_counts(random, shape.values_place(), bytes),
-        5..=7 => change_loop_count(random, shape, bytes),
+        4 | 5 => {
+            let past = [VARIABLES.high + 1, PATHS.high + 1, ROWS.high + 1];
+            cut_at_counts(random, shape.values_place(), &past, bytes);
+        }
+        6..=8 => change_loop_count(random, shape, bytes),
         _ => change_value(random, shape.values_place(), &shape.fields(), bytes),
     }
 }
@@ -20,18 +23,31 @@ pub fn damage_loop(random: &mut Random, shape: &LoopShape, bytes: &mut Vec<u8>) 
 pub fn damage_argument(random: &mut Random, shape: &CertificateShape, bytes: &mut Vec<u8>) {
     match random.below(12) {
         0..=3 => damage_frame(random, bytes),
-        4 => cut_at_counts(random, shape.values_place(), bytes),
-        5 => change_component_count(random, shape, bytes),
-        6 | 7 => change_component_number(random, shape, bytes),
+        4 | 5 => {
+            let past = [COMPONENTS.high + 1, shape.components as i64];
+            cut_at_counts(random, shape.values_place(), &past, bytes);
+        }
+        6 => change_component_count(random, shape, bytes),
+        7 | 8 => change_component_number(random, shape, bytes),
         _ => change_value(random, shape.values_place(), &shape.fields(), bytes),
     }
 }
 
-/// A record that ends among its counts or right behind them, with an L that says so.
-fn cut_at_counts(random: &mut Random, values_place: usize, bytes: &mut Vec<u8>) {
+/// A record that ends among its counts or right behind them, with an L that says so. Half of the time a count before the end
+/// is past its range: of these numbers the first counts have the first, and all that follow the last.
+fn cut_at_counts(random: &mut Random, values_place: usize, past: &[i64], bytes: &mut Vec<u8>) {
     let length = 6 + random.below(values_place - 5 + 4);
     bytes.resize(length, 0);
     put_length(bytes, length - 4);
+    let counts = (length.min(values_place) - 6) / 2;
+    if counts > 0 && random.one_in(2) {
+        let chosen = match random.one_in(3) {
+            true => random.below(counts),
+            false => counts - 1,
+        };
+        let count = past[chosen.min(past.len() - 1)];
+        Form::U16.put(count, bytes, 6 + 2 * chosen);
+    }
 }
 
 /// Another count for one of this range: near, at a limit, or mostly past one.

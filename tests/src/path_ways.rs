@@ -5,7 +5,7 @@ use crate::compare::Told;
 use crate::construct::{conditions_of, Condition};
 use crate::oracle::judging::paths_and_argument;
 use crate::oracle::layout::{
-    Field, Range, COMPONENTS, DIRECTION, ENTRY, FALL, MULTIPLIER, PATHS, RIGHT,
+    Field, Range, COMPONENTS, DIRECTION, ENTRY, FALL, MULTIPLIER, PATHS, RIGHT, ROWS, VARIABLES,
 };
 use crate::oracle::lexicographic::{Branches, Lexicographic, Weighed};
 use crate::oracle::paths::{path_loop, CertificateShape, LoopShape, LEXICOGRAPHIC, PATH_LOOP};
@@ -78,6 +78,14 @@ fn length_name(record: u64, why: &str) -> String {
     format!("{}, by {why}", refusal_name(3, record))
 }
 
+/// L is too small for the next counts, and a count that stands before them is out of range.
+fn covered_name(record: u64, why: &str) -> String {
+    format!(
+        "{}, with a bad count before the end",
+        length_name(record, why)
+    )
+}
+
 fn unwanted((looped, certificate): (u64, u64)) -> String {
     format!("4: kind {looped} with kind {certificate}")
 }
@@ -105,6 +113,8 @@ pub fn quotas(least: u64, least_way: u64) -> Vec<(&'static str, String, u64)> {
     ways.extend(TOGETHER.map(together_name));
     for (record, _) in RECORDS {
         ways.extend(LENGTHS.map(|why| length_name(record, why)));
+        ways.push(covered_name(record, LENGTHS[0]));
+        ways.push(covered_name(record, LENGTHS[1]));
     }
     for (field, range) in LOOP_RANGES.iter().chain(&ARGUMENT_RANGES) {
         let low = (*field != "multiplier").then_some(range.low);
@@ -243,8 +253,11 @@ fn judged(looped: &[u8], certificate: &[u8], told: (u64, u64, u64)) -> Vec<Strin
     let paths = branches.as_ref().map_or(0, |branches| branches.paths.len());
     match (number, record) {
         (0, _) => names.extend(accepted(looped, certificate)),
-        (3, 1) => names.push(length_name(1, LENGTHS[loop_length(looped)])),
-        (3, _) => names.push(length_name(2, LENGTHS[argument_length(certificate, paths)])),
+        (3, 1) => names.extend(length_names(1, loop_length(looped), looped)),
+        (3, _) => {
+            let why = argument_length(certificate, paths);
+            names.extend(length_names(2, why, certificate));
+        }
         (4, _) => names.extend(unwanted_pair(looped, certificate, number, record)),
         (5, _) => names.push(COUNTS[refused_count(looped, place, record)].to_string()),
         (6, 1) => names.extend(past_of_loop(looped, place)),
@@ -285,6 +298,24 @@ fn argument_length(certificate: &[u8], paths: usize) -> usize {
         length if length < 4 + 2 * paths => 1,
         _ => 2,
     }
+}
+
+/// Why L is refused, and whether a count before the end would be refused if L were not.
+fn length_names(record: u64, why: usize, bytes: &[u8]) -> Vec<String> {
+    let mut names = vec![length_name(record, LENGTHS[why])];
+    let counts = |from: usize| (from..bytes.len() - 1).step_by(2);
+    let over = |from: usize, most: i64| counts(from).any(|at| count_at(bytes, at) > most);
+    let covered = match (record, why) {
+        (1, 0) => over(6, VARIABLES.high),
+        (1, 1) => over(10, ROWS.high),
+        (2, 0) => over(6, COMPONENTS.high),
+        (2, 1) => over(8, count_at(bytes, 6) - 1),
+        _ => false,
+    };
+    if covered {
+        names.push(covered_name(record, LENGTHS[why]));
+    }
+    names
 }
 
 /// Which count is out of range.

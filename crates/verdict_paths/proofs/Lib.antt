@@ -17,3 +17,5 @@ pub mod PathsReadBack
 pub mod ArgumentsReadBack
 -- in values: every proposal in range that meets the conditions is accepted
 pub mod PathsInValues
+-- the edges
+pub mod PathVerdictEdges

@@ -16,7 +16,7 @@ use Rattle.record_paths.specs.PathCertificates.{counted}
 use Rattle.record_paths.specs.PathFields.{path-counts, component-counts, falls}
 use Rattle.theory_paths.specs.Lexicographics.{part-at, LexicographicHolds, WellFormed, Ends}
 use Rattle.theory_paths.specs.PathFails.{LexicographicFails}
-use Rattle.theory_paths.specs.PathSamples.{two-counters, two-counters-argument, ping-pong, ping-pong-argument}
+use Rattle.theory_paths.specs.PathSamples.{two-counters, two-counters-argument, ping-pong, ping-pong-argument, third-counter, third-owned}
 use Rattle.theory_paths.specs.PathTable as Rows
 use Rattle.theory_paths.specs.Paths.{rows-of}
 use Rattle.theory_paths.proofs.PathDecisions.{lexicographic-decided, told-exactly-lexicographic}
@@ -33,6 +33,7 @@ use Rattle.verdict_paths.specs.PathContents.{branches-in, lexicographic-
 use Rattle.verdict_paths.specs.PathJudging.{Path-pair, path-judges}
 use Rattle.verdict_paths.specs.PathValues.{Branches-in, Part-in, Argument-in, branches-bytes, argument-bytes, making}
 use Rattle.verdict_paths.specs.PathSampleBytes.{two-counters-bytes, two-counters-argument-bytes, ping-pong-bytes, ping-pong-argument-bytes}
+use Rattle.verdict_paths.specs.PathSampleBytes.{third-counter-bytes, third-counter-argument-bytes}
 use Rattle.verdict_paths.proofs.PathDemands.{accepted-ends, shown-ends, paths-leave-list, by-rows, accepted-by-rows, Framed, only-together}
 use Rattle.verdict_paths.proofs.PathDemands.{frame-refused}
 use Rattle.verdict_paths.proofs.PathsAccepted.{Pair-sound, Lexicographic-accepted, paths-accepted-exactly-when, accepted-paths-show}
@@ -58,8 +59,13 @@ pub held-as-paths :
     × (lexicographic-in (counted two-counters-bytes) two-counters-argument-bytes ≡ two-counters-argument)
     × (branches-in ping-pong-bytes ≡ ping-pong)
     × (lexicographic-in (counted ping-pong-bytes) ping-pong-argument-bytes ≡ ping-pong-argument)
-unfolding computing Rows.computing two-counters-bytes two-counters-argument-bytes ping-pong-bytes ping-pong-argument-bytes
-held-as-paths = (refl, refl, refl, refl, refl, refl, refl, refl)
+    × (branches-in third-counter-bytes ≡ third-counter)
+    × (lexicographic-in (counted third-counter-bytes) third-counter-argument-bytes
+    ≡ third-owned ((0 ∷ 1 ∷ 0 ∷ 0 ∷ []) ∷ (0 ∷ 0 ∷ 1 ∷ 0 ∷ []) ∷ []))
+unfolding
+    computing Rows.computing two-counters-bytes two-counters-argument-bytes ping-pong-bytes ping-pong-argument-bytes third-counter-bytes
+    third-counter-argument-bytes
+held-as-paths = (refl, refl, refl, refl, refl, refl, refl, refl, refl, refl)
 
 -- ---- what is answered
 
@@ -70,8 +76,11 @@ pub samples-judged :
     × (of-paths ping-pong-bytes ≡ true)
     × (judged ping-pong-bytes ping-pong-argument-bytes [] ≡ refusal-of 2 53 1)
     × (rank-judged ping-pong-bytes ping-pong-argument-bytes (pos 77 ∷ []) ≡ pos 77 ∷ [])
-unfolding computing two-counters-bytes two-counters-argument-bytes ping-pong-bytes ping-pong-argument-bytes
-samples-judged = (refl, refl, refl, refl, refl, refl)
+    × (judged third-counter-bytes third-counter-argument-bytes [] ≡ shows Lexicographic)
+unfolding
+    computing two-counters-bytes two-counters-argument-bytes ping-pong-bytes ping-pong-argument-bytes third-counter-bytes
+    third-counter-argument-bytes
+samples-judged = (refl, refl, refl, refl, refl, refl, refl)
 
 -- ---- the promises, of two counters
 

@@ -6,7 +6,7 @@ pub mod PathJudging
 pub mod JudgingByLoop
 -- loops and arguments within the limits, and the bytes that hold them
 pub mod PathValues
--- two counters and ping-pong, as bytes
+-- samples as bytes
 pub mod PathSampleBytes
 -- one name that opens every definition, for tables
 pub mod JudgingComputing

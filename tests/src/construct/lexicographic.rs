@@ -186,6 +186,8 @@ pub enum Wrong {
     Now(usize, i64),
     /// The sum in a column of A', by so much.
     Next(usize, i64),
+    /// The sums of A', which are 0 where r is due and r where 0 is: the rows show another condition.
+    Other,
     /// The right sides, which are so much over the limit; 0 leaves nothing to spare and nothing wrong.
     Right(i64),
 }
@@ -198,7 +200,7 @@ pub fn spoil(built: &mut BuiltPaths, path: usize, condition: Condition, wrong: W
     };
     let PathPair { branches, argument } = &mut built.pair;
     let part = &mut argument.parts[path];
-    let (_, _, limit) = targets(condition, &argument.components, part.component);
+    let (now, next, limit) = targets(condition, &argument.components, part.component);
     let weights = list_of(part, condition);
     let rows = &mut branches.paths[path];
     let sum = total(rows, &[], |i, row| weights[i] * row.right);
@@ -206,6 +208,11 @@ pub fn spoil(built: &mut BuiltPaths, path: usize, condition: Condition, wrong: W
     match wrong {
         Wrong::Now(column, by) => row.now[column] += by,
         Wrong::Next(column, by) => row.next[column] += by,
+        Wrong::Other => {
+            let sign = if is_zero(&next) { -1 } else { 1 };
+            let raised = row.next.iter_mut().zip(&now);
+            raised.for_each(|(entry, minus_r)| *entry += sign * minus_r);
+        }
         Wrong::Right(over) => row.right += limit - sum + over,
     }
     if in_range(&row) {
@@ -314,6 +321,7 @@ mod tests {
                 let wrongs = [
                     Wrong::Now(column, 1),
                     Wrong::Next(column, -1),
+                    Wrong::Other,
                     Wrong::Right(1),
                 ];
                 for wrong in wrongs {
