@@ -1,23 +1,22 @@
 -- The bytes of an argument that is within the limits are a sound certificate for its loop, and they hold that argument: reading them with the loop's
 -- counts gives the values back.
 use mathlib.Core.Path.{_≡_, refl, sym, ap, _∙_}
-use Prim.Native.Nat.{ℕ, zero, suc, _+_, _*_, _≤_, _<_, _^_}
-use mathlib.Core.Bool.{true}
+use Prim.Native.Nat.{ℕ, zero, suc, _+_, _*_, _≤_, _<_}
 use mathlib.Core.List.{List, [], _∷_, _++_, append-nil}
 use native.Mathlib.Nat.{mul-le-mul}
 use native.Mathlib.Omega.{arith}
 use lib.Dec.{ltb}
 use lib.IntN.{ℤ, pos}
-use lib.ListN.{length, getD, replicate, drop, length-append, length-replicate}
+use lib.ListN.{length, getD, replicate, length-append, length-replicate}
 use borrow.Author.Tests.{le-leb, eq-eqb, lt-ltb}
 use Rattle.endian.specs.Numbers.{littleAt, digits}
 use Rattle.endian.proofs.Laws.{length-digits}
-use Rattle.refusal.specs.Places.{Throughout, before-failing}
+use Rattle.refusal.specs.Places.{Throughout}
 use Rattle.refusal.specs.Tests.{done, first}
 use Rattle.refusal.proofs.PlaceLaws.{before-all}
 use Rattle.refusal.proofs.TestLaws.{Passes, passes-done}
-use Rattle.record.specs.Contents.{In, List-in}
-use Rattle.record.specs.Fields.{i32, width, stored, Field, bytesOf, values}
+use Rattle.record.specs.Contents.{List-in}
+use Rattle.record.specs.Fields.{i32, width, stored, Field, bytesOf}
 use Rattle.record.specs.Layouts.{direction, right-side, multiplier}
 use Rattle.record.specs.Ranges.{multipliers}
 use Rattle.record.specs.Readers.{stated-length, kind-number}
@@ -32,10 +31,10 @@ use Rattle.record_paths.specs.PathFields.{component-counts, component-count, fa
 use Rattle.record_paths.proofs.PathSums.{sum-most}
 use Rattle.theory_paths.specs.Lexicographics.{Component, PathPart, Lexicographic, component-at, part-at}
 use Rattle.theory_paths.specs.Paths.{Branches, rows-of}
-use Rattle.whole.specs.Sums.{Each, tabulate}
+use Rattle.whole.specs.Sums.{tabulate}
 use Rattle.whole.proofs.EachLaws.{each-at}
 use Rattle.verdict_paths.specs.PathContents.{component-held, list-held, part-held, lexicographic-in}
-use Rattle.verdict_paths.specs.PathValues.{Branches-in, Component-in, Part-in, Argument-in, joined, framed}
+use Rattle.verdict_paths.specs.PathValues.{Branches-in, Component-in, Argument-in, joined, framed}
 use Rattle.verdict_paths.specs.PathValues.{component-bytes, list-bytes, lists-of, part-bytes, argument-bytes}
 use Rattle.verdict_paths.proofs.FieldsAtPlaces.{Fits-at, none-fit, fits-both, parts-summed, run-together}
 use Rattle.verdict_paths.proofs.FieldsAtPlaces.{components-together, component-wide, components-wide}

@@ -1,26 +1,24 @@
 -- Fields that stand at a place of bytes with every number in range: taken apart and put together, so that what is known of a whole body is known
 -- of its parts and the other way round. A body is made of families of fields, so many rows, components or multipliers.
 use mathlib.Core.Path.{_≡_, refl, sym, ap, _∙_}
-use Prim.Native.Nat.{ℕ, zero, suc, _+_, _*_, _-_, _≤_, _<_}
-use mathlib.Core.Bool.{Bool, true}
+use Prim.Native.Nat.{ℕ, zero, suc, _+_, _*_, _-_, _≤_}
+use mathlib.Core.Bool.{true}
 use mathlib.Core.List.{List, [], _∷_, _++_, append-assoc, append-nil}
 use native.Mathlib.Omega.{arith}
-use lib.IntN.{ℤ, pos}
 use lib.ListN.{length, take, drop, replicate, replicate-append-replicate, length-replicate}
 use lib.Seq.{drop-drop, take-all}
 use Rattle.refusal.specs.Places.{Throughout}
 use Rattle.refusal.proofs.TestLaws.{both-true, true-both}
 use Rattle.record.specs.Contents.{In, List-in, Rows-in}
 use Rattle.record.specs.Fields.{width, Field, widths, values, in-range}
-use Rattle.record.specs.Layouts.{direction, right-side, row, rowsOf}
+use Rattle.record.specs.Layouts.{direction, right-side, rowsOf}
 use Rattle.record.specs.Ranges.{within}
 use Rattle.record.proofs.FieldLaws.{length-values, widths-append}
 use Rattle.record.proofs.FittingValues.{fit-run, within-in}
-use Rattle.record.proofs.Lengths.{widths-replicate, widths-rows}
+use Rattle.record.proofs.Lengths.{widths-replicate}
 use Rattle.record_fields.specs.Runs.{number-at}
 use Rattle.record_paths.specs.PathCertificates.{component-fields, components-fields}
 use Rattle.record_paths.specs.PathFields.{fall, numbers-at, sum-of}
-use Rattle.verdict.specs.Contents.{rows-from}
 use Rattle.verdict.proofs.PartsInRange.{rows-fit}
 use Rattle.verdict_paths.specs.PathContents.{rows-at}
 

@@ -19,3 +19,5 @@ pub mod ArgumentsReadBack
 pub mod PathsInValues
 -- the edges
 pub mod PathVerdictEdges
+-- wrong judges
+pub mod WrongPathJudges

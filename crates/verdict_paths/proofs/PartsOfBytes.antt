@@ -1,7 +1,7 @@
 -- Bytes that are put together from parts: a part stands at a place (`Stands`), a part of a part stands at the sum of the places, and of the bytes of
 -- a list's members each stands behind the sum of the lengths before it. What stands at a place is read there, a number or a row of fields.
 use mathlib.Core.Path.{_≡_, refl, sym, ap, _∙_}
-use Prim.Native.Nat.{ℕ, zero, suc, _+_, _*_, _≤_, _<_, _^_}
+use Prim.Native.Nat.{ℕ, zero, suc, _+_, _*_, _<_, _^_}
 use mathlib.Core.Bool.{true}
 use mathlib.Core.List.{List, [], _∷_, _++_, append-assoc, append-nil}
 use native.Mathlib.Omega.{arith}
@@ -11,9 +11,9 @@ use lib.Seq.{take-at, drop-at}
 use Rattle.endian.specs.Numbers.{little, littleAt, digits}
 use Rattle.endian.proofs.Laws.{length-digits, little-digits}
 use Rattle.refusal.specs.Places.{Throughout}
-use Rattle.record.specs.Fields.{Form, u16, width, number, stored, Field, widths, values, bytesOf, in-range}
+use Rattle.record.specs.Fields.{u16, width, number, stored, Field, values, bytesOf, in-range}
 use Rattle.record.specs.Ranges.{within}
-use Rattle.record.proofs.FieldLaws.{length-stored, length-bytesOf, number-stored, field-holds, values-bytesOf}
+use Rattle.record.proofs.FieldLaws.{length-stored, number-stored, field-holds, values-bytesOf}
 use Rattle.record.proofs.FittingValues.{Fit}
 use Rattle.record_fields.specs.Runs.{number-at}
 use Rattle.record_paths.specs.PathFields.{sum-of}

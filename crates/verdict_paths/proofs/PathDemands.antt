@@ -2,8 +2,8 @@
 -- the paths that the bytes hold goes on for ever. Nothing lent is changed. Every other loop record is judged as before (`by-rows`), so what
 -- crate `verdict` proves of `judges` and `rank-after` is said of the public call's answer; and kinds 5 and 6 are judged only together.
 use mathlib.Core.Path.{_≡_, refl, sym, ap, _∙_}
-use mathlib.Core.Bool.{Bool, true, false, false≢true}
-use mathlib.Core.List.{List, [], _∷_, _++_}
+use mathlib.Core.Bool.{true, false, false≢true}
+use mathlib.Core.List.{List}
 use Prim.Native.Nat.{ℕ, _+_, _≤_}
 use native.Mathlib.Omega.{arith}
 use lib.Dec.{eqb}

@@ -9,7 +9,6 @@ use native.Mathlib.Omega.{arith}
 use lib.IntN.{ℤ, pos}
 use lib.ListN.{length, take}
 use Rattle.refusal.specs.Places.{Throughout}
-use Rattle.refusal.specs.Tests.{refused}
 use Rattle.record.specs.Ranges.{_to_, either-way, variables, rows, entries, right-sides, multipliers, directions}
 use Rattle.record.specs.Samples as Records
 use Rattle.record_paths.specs.PathCertificates.{counted}
@@ -34,7 +33,7 @@ use Rattle.verdict_paths.specs.PathJudging.{Path-pair, path-judges}
 use Rattle.verdict_paths.specs.PathValues.{Branches-in, Part-in, Argument-in, branches-bytes, argument-bytes, making}
 use Rattle.verdict_paths.specs.PathSampleBytes.{two-counters-bytes, two-counters-argument-bytes, ping-pong-bytes, ping-pong-argument-bytes}
 use Rattle.verdict_paths.specs.PathSampleBytes.{third-counter-bytes, third-counter-argument-bytes}
-use Rattle.verdict_paths.proofs.PathDemands.{accepted-ends, shown-ends, paths-leave-list, by-rows, accepted-by-rows, Framed, only-together}
+use Rattle.verdict_paths.proofs.PathDemands.{accepted-ends, shown-ends, paths-leave-list, by-rows, accepted-by-rows, only-together}
 use Rattle.verdict_paths.proofs.PathDemands.{frame-refused}
 use Rattle.verdict_paths.proofs.PathsAccepted.{Pair-sound, Lexicographic-accepted, paths-accepted-exactly-when, accepted-paths-show}
 use Rattle.verdict_paths.proofs.PathsAccepted.{refused-paths-show-nothing}
@@ -151,6 +150,10 @@ ping-pong-never-accepted certificate lent h =
 
 pub ping-pong-never-7 : (certificate : List ℕ) (lent : List ℤ) → judged ping-pong-bytes certificate lent .number ≡ 7 → ⊥
 ping-pong-never-7 certificate lent = paths-never-7 ping-pong-bytes certificate lent (samples-judged .3)
+
+pub never-8-of-either : (certificate : List ℕ) (lent : List ℤ)
+    → (judged ping-pong-bytes certificate lent .number ≡ 8 → ⊥) × (judged P certificate lent .number ≡ 8 → ⊥)
+never-8-of-either certificate lent = (judged-never-8 ping-pong-bytes certificate lent, judged-never-8 P certificate lent)
 
 -- ---- the other kinds: P and its ranking S1 are judged as before
 

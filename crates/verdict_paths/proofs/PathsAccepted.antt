@@ -5,7 +5,7 @@ use mathlib.Core.Logic.{_↔_}
 use Prim.Native.Nat.{ℕ, _≤_, _<_}
 use native.Mathlib.Omega.{arith}
 use lib.ListN.{length}
-use Rattle.refusal.specs.Tests.{done, refused, first, number}
+use Rattle.refusal.specs.Tests.{done, first, number}
 use Rattle.refusal.proofs.TestLaws.{zero-done}
 use Rattle.record_paths.specs.PathFields.{bytes-alone, is-kind, holds-counts, is-long, fields-fit}
 use Rattle.record_paths.specs.PathLoops.{sound-paths}

@@ -5,12 +5,12 @@ use Prim.Native.Nat.{ℕ, _+_, _*_, _≤_, _<_}
 use mathlib.Core.List.{List, [], _∷_, append-nil}
 use native.Mathlib.Nat.{mul-le-mul-left}
 use native.Mathlib.Omega.{arith}
-use lib.IntN.{ℤ, pos}
-use lib.ListN.{length, getD, replicate}
+use lib.IntN.{pos}
+use lib.ListN.{length, replicate}
 use lib.Signed.{_≤ℤ_}
 use borrow.Author.Tests.{le-leb}
 use Rattle.refusal.specs.Places.{Throughout}
-use Rattle.refusal.specs.Tests.{done, first}
+use Rattle.refusal.specs.Tests.{first}
 use Rattle.refusal.proofs.TestLaws.{true-both}
 use Rattle.record.specs.Contents.{In, List-in, Rows-in}
 use Rattle.record.specs.Fields.{width}
@@ -24,10 +24,10 @@ use Rattle.record_paths.specs.PathFields.{path-counts, component-counts, falls,
 use Rattle.record_paths.specs.PathLoops.{variables-in, paths-in, rows-in, rows-before, all-rows, rows-place}
 use Rattle.record_paths.proofs.PathSums.{sum-part}
 use Rattle.record_paths.proofs.PathsSound.{PathsSound, paths-sound, LexicographicSound, lexicographic-sound}
-use Rattle.theory_paths.specs.Lexicographics.{Component, PathPart, Lexicographic, part-at, NonNegativePart, WellFormed}
+use Rattle.theory_paths.specs.Lexicographics.{PathPart, Lexicographic, part-at, NonNegativePart, WellFormed}
 use Rattle.theory_paths.specs.Paths.{Branches, rows-of}
 use Rattle.verdict.proofs.Demands.{nonneg-all}
-use Rattle.whole.specs.Sums.{Each, NonNeg, tabulate}
+use Rattle.whole.specs.Sums.{Each, NonNeg}
 use Rattle.whole.proofs.EachLaws.{each-then, each-by}
 use Rattle.whole.proofs.Tables.{length-tabulate, tabulate-at, each-tabulate}
 use Rattle.verdict_paths.specs.PathContents.{path-in, branches-in, component-held, list-held, part-held, lexicographic-in}

@@ -1,7 +1,7 @@
 -- In values: for every loop of several paths and every argument for it within the limits, stated part by part (`Branches-in`, `Argument-in`), judging
 -- the bytes made of them gives 0 if and only if the conditions of 02, Q-3, hold of those values, and tells a condition's number and a path if and
 -- only if that condition is the first to fail, there. So every proposal in range that meets the conditions is accepted.
-use mathlib.Core.Path.{_≡_, refl, sym, ap, _∙_}
+use mathlib.Core.Path.{_≡_, sym, _∙_}
 use mathlib.Core.Logic.{_↔_}
 use mathlib.Core.Bool.{true}
 use mathlib.Core.List.{List}
@@ -10,14 +10,13 @@ use lib.IntN.{ℤ}
 use borrow.Author.Tests.{eq-eqb}
 use Rattle.record_paths.specs.PathCertificates.{counted}
 use Rattle.record_paths.proofs.PathsSound.{paths-sound}
-use Rattle.theory_paths.specs.Lexicographics.{Lexicographic, LexicographicHolds, Ends}
+use Rattle.theory_paths.specs.Lexicographics.{Lexicographic, LexicographicHolds}
 use Rattle.theory_paths.specs.PathFails.{LexicographicFails}
 use Rattle.theory_paths.specs.Paths.{Branches}
 use Rattle.verdict.specs.Stages.{shows, refusal-of}
 use Rattle.verdict.specs.declared.Outcome.the-variants as Outcomes
-use Rattle.verdict_paths.specs.JudgingByLoop.{of-paths, judged, rank-judged}
-use Rattle.verdict_paths.specs.PathContents.{branches-in, lexicographic-in}
-use Rattle.verdict_paths.specs.PathJudging.{Path-pair, path-judges}
+use Rattle.verdict_paths.specs.JudgingByLoop.{of-paths, judged}
+use Rattle.verdict_paths.specs.PathJudging.{Path-pair}
 use Rattle.verdict_paths.specs.PathValues.{Branches-in, Argument-in, branches-bytes, argument-bytes}
 use Rattle.verdict_paths.proofs.ArgumentsReadBack.{argument-read-back, argument-sound}
 use Rattle.verdict_paths.proofs.PathDemands.{by-paths}

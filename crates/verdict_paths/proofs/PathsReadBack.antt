@@ -1,28 +1,25 @@
 -- The bytes of a loop of several paths that is within the limits, and of an argument for it, are sound records, and they hold that loop and that
 -- argument: reading them gives the values back.
-use mathlib.Core.Path.{_≡_, refl, sym, ap, _∙_}
-use Prim.Native.Nat.{ℕ, zero, suc, _+_, _*_, _≤_, _<_, _^_}
-use mathlib.Core.Bool.{true}
-use mathlib.Core.List.{List, [], _∷_, _++_}
+use mathlib.Core.Path.{_≡_, refl, _∙_}
+use Prim.Native.Nat.{ℕ, _+_, _*_, _≤_}
+use mathlib.Core.List.{List, [], _∷_}
 use native.Mathlib.Nat.{mul-le-mul}
 use native.Mathlib.Omega.{arith}
-use lib.IntN.{ℤ, pos}
-use lib.ListN.{length, getD, replicate, drop, length-append}
-use borrow.Author.Tests.{le-leb, eq-eqb, lt-ltb}
+use lib.IntN.{pos}
+use lib.ListN.{length, replicate, length-append}
+use borrow.Author.Tests.{le-leb, eq-eqb}
 use Rattle.endian.specs.Numbers.{littleAt, digits}
 use Rattle.endian.proofs.Laws.{length-digits}
-use Rattle.refusal.specs.Places.{Throughout, before-failing}
+use Rattle.refusal.specs.Places.{Throughout}
 use Rattle.refusal.specs.Tests.{done, first}
-use Rattle.refusal.proofs.PlaceLaws.{before-all}
 use Rattle.refusal.proofs.TestLaws.{Passes, passes-done}
 use Rattle.record.specs.Contents.{In, rows-values}
-use Rattle.record.specs.Fields.{u16, width, bytesOf, values}
 use Rattle.record.specs.Layouts.{variable-count, row-count, rowsOf}
-use Rattle.record.specs.Ranges.{_to_, within, variables, rows}
+use Rattle.record.specs.Ranges.{_to_, variables, rows}
 use Rattle.record.specs.Readers.{stated-length, kind-number}
 use Rattle.record.proofs.FieldLaws.{length-bytesOf}
 use Rattle.record.proofs.FittingValues.{Fit, in-within}
-use Rattle.record.proofs.Lengths.{widths-replicate, widths-rows}
+use Rattle.record.proofs.Lengths.{widths-rows}
 use Rattle.record.proofs.WriteAccepts.{fit-rows}
 use Rattle.record_paths.specs.PathFields.{path-counts, path-count, sum-of, bytes-alone, is-kind, holds-counts, is-long, fields-fit}
 use Rattle.record_paths.specs.PathLoops.{variables-in, paths-in, rows-in, rows-before, all-rows, rows-place, paths-length, sound-paths}
@@ -30,8 +27,6 @@ use Rattle.record_paths.proofs.PathSums.{sum-most}
 use Rattle.record_paths.proofs.RunFields.{within-both}
 use Rattle.theory_paths.specs.Paths.{Branches, rows-of}
 use Rattle.verdict.proofs.InValues.{loop-back}
-use Rattle.whole.specs.Rows.{Row}
-use Rattle.whole.specs.Sums.{Each, tabulate}
 use Rattle.whole.proofs.EachLaws.{each-at}
 use Rattle.verdict_paths.specs.PathContents.{rows-at, path-in, branches-in}
 use Rattle.verdict_paths.specs.PathValues.{Path-in, Branches-in, joined, framed, path-bytes, branches-bytes}

@@ -4,11 +4,10 @@
 use mathlib.Core.Path.{_≡_, refl, sym, ap, _∙_}
 use mathlib.Core.Logic.{_↔_}
 use mathlib.Core.Bool.{true}
-use mathlib.Core.List.{List, [], _∷_}
+use mathlib.Core.List.{List, []}
 use Prim.Native.Nat.{ℕ, _≤_, _<_}
 use native.Mathlib.Omega.{arith}
 use lib.IntN.{ℤ}
-use Rattle.refusal.specs.Tests.{done, refused, first}
 use Rattle.refusal.proofs.TestLaws.{either, avoids, number-avoided}
 use Rattle.record_paths.specs.PathCertificates.{sound-lexicographic}
 use Rattle.record_paths.specs.PathFields.{bytes-alone, is-kind, holds-counts, is-long, fields-fit}
@@ -16,7 +15,7 @@ use Rattle.record_paths.specs.PathLoops.{sound-paths}
 use Rattle.theory_paths.specs.PathConditions.{lexicographicTold}
 use Rattle.theory_paths.specs.PathFails.{LexicographicFails}
 use Rattle.theory_paths.proofs.PathDecisions.{lexicographic-decided, told-exactly-lexicographic}
-use Rattle.verdict.specs.Stages.{refusal, said, refusal-of}
+use Rattle.verdict.specs.Stages.{said, refusal-of}
 use Rattle.verdict.specs.declared.Verdict.{Verdict}
 use Rattle.verdict.proofs.StageLaws.{by-told, verdict-number, stage-done, stage-refused, stage-passed, stage-tells, silent-said}
 use Rattle.verdict.proofs.ToldExactly.{above, said-so, never-8}

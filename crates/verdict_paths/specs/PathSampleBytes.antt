@@ -1,7 +1,7 @@
--- Records of kinds 5 and 6 as bytes, written out from the layout of 02, Q-3: two counters, ping-pong and a third counter, with an argument for
--- each. In a record of kind 5 a line is the length, the kind, n, the count of paths and each m, then a line for each row; in one of kind 6 the
--- length, the kind, the count of components and each path's component number, then a line for each component (r, δ0, δ) and for each list of
--- multipliers. Crate `theory_paths` has the same samples as rows; `PathSamples` proves that these bytes hold them.
+-- Records of kinds 5 and 6 as bytes, written out from the layout of 02, Q-3: two counters, ping-pong and a third counter, with an argument
+-- for each. In a record of kind 5 a line is the length, the kind, n, the count of paths and each m, then a line for each row; in one of
+-- kind 6 the length, the kind, the count of components and each path's component number, then a line for each component (r, δ0, δ) and for
+-- each list of multipliers. Crate `theory_paths` has the same samples as rows; `PathSamples` proves that these bytes hold them.
 use Prim.Native.Nat.{ℕ}
 use mathlib.Core.List.{List, [], _∷_}
 

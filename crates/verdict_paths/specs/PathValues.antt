@@ -1,6 +1,6 @@
 -- 02, Q-3, once more from the values' side: what it is for a loop of several paths and an argument for it to be within the limits, part by
 -- part, and the bytes that hold them, in the layout's order. The statements about all values in range are in these words.
-use Prim.Native.Nat.{ℕ, suc, _+_, _*_, _<_}
+use Prim.Native.Nat.{ℕ, _+_, _*_, _<_}
 use mathlib.Core.Path.{_≡_}
 use mathlib.Core.List.{List, [], _∷_, _++_}
 use lib.IntN.{ℤ, pos}

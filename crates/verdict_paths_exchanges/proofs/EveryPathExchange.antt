@@ -2,9 +2,8 @@
 -- of the record itself (`no-path-exchange-unseen`), which is accepted. The records hold the values that stand beside them (`unlike-held`).
 use mathlib.Core.Path.{_≡_, refl}
 use mathlib.Core.Bool.{false}
-use mathlib.Core.List.{List, [], _∷_, map}
+use mathlib.Core.List.{[], map}
 use Rattle.record_paths.specs.PathCertificates.{counted}
-use Rattle.verdict.specs.Outcomes.{numbers}
 use Rattle.verdict.specs.Stages.{shows}
 use Rattle.verdict.specs.declared.Outcome.the-variants.{Lexicographic}
 use Rattle.verdict_exchanges.specs.Exchanges.{exchanged, exchange-of, answer-of, alike, told-in}

@@ -1,10 +1,10 @@
--- Two pairs of kinds 5 and 6 in which no two numbers of one form are alike, as bytes written out from the layout of 02, Q-3, and as the values
--- that they hold. In the first n is 1 and there are two paths, each owning a component, so it is about paths, components and their lists; in the
--- second there is one path over two variables, so it is about columns. Every sum is exact, and every right side meets its limit with nothing to
--- spare: what is exchanged is refused.
+-- Two pairs of kinds 5 and 6 in which no two numbers of one form are alike, as bytes written out from the layout of 02, Q-3, and as the
+-- values that they hold. In the first n is 1 and there are two paths, each owning a component, so it is about paths, components and their
+-- lists; in the second there is one path over two variables, so it is about columns. Every sum is exact, and every right side meets its
+-- limit with nothing to spare: what is exchanged is refused.
 use Prim.Native.Nat.{ℕ}
 use mathlib.Core.List.{List, [], _∷_}
-use lib.IntN.{ℤ, pos}
+use lib.IntN.{pos}
 use Rattle.theory.specs.Samples.{row}
 use Rattle.theory_paths.specs.Lexicographics.{Lexicographic}
 use Rattle.theory_paths.specs.PathSamples.{component-of, part-of, argument}
