@@ -1,0 +1,4 @@
+-- the answers by kind, case by case
+pub mod SettlingBridges
+-- a certificate whose L does not fit its bytes is refused alike either way
+pub mod SettlingFrames
