@@ -2,3 +2,5 @@
 pub mod SettlingBridges
 -- a certificate whose L does not fit its bytes is refused alike either way
 pub mod SettlingFrames
+-- accepted exactly when
+pub mod SettlingAccepted
