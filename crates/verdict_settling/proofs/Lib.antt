@@ -4,3 +4,5 @@ pub mod SettlingBridges
 pub mod SettlingFrames
 -- accepted exactly when
 pub mod SettlingAccepted
+-- what a sound pair holds is within the limits
+pub mod SettlingInRange
