@@ -6,3 +6,5 @@ pub mod SettlingFrames
 pub mod SettlingAccepted
 -- what a sound pair holds is within the limits
 pub mod SettlingInRange
+-- demand 3 about bytes, and the other kinds
+pub mod SettlingDemands
