@@ -8,3 +8,5 @@ pub mod SettlingAccepted
 pub mod SettlingInRange
 -- demand 3 about bytes, and the other kinds
 pub mod SettlingDemands
+-- what a refusal by a condition means
+pub mod SettlingToldExactly
