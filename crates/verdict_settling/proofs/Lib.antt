@@ -10,3 +10,7 @@ pub mod SettlingInRange
 pub mod SettlingDemands
 -- what a refusal by a condition means
 pub mod SettlingToldExactly
+-- the bytes of values within the limits are sound and hold them
+pub mod SettlingReadBack
+-- in values: every settling in range that meets the conditions is accepted
+pub mod SettlingInValues

@@ -31,7 +31,7 @@ use Rattle.verdict_settling.proofs.SettlingAccepted.{Settling-sound}
 -- ---- kind 8
 
 -- the fields behind g, t and k
-abbrev from-E : ℕ → List Field
+abbrev pub from-E : ℕ → List Field
 from-E m = replicate m multiplier ++ (replicate (suc m) multiplier ++ replicate (suc m) multiplier)
 
 module _ (n m : ℕ) (bytes : List ℕ) where
