@@ -14,3 +14,5 @@ pub mod SettlingToldExactly
 pub mod SettlingReadBack
 -- in values: every settling in range that meets the conditions is accepted
 pub mod SettlingInValues
+-- the promises, said of samples' bytes
+pub mod SettlingSamples

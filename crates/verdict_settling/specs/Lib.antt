@@ -6,5 +6,7 @@ pub mod SettlingJudging
 pub mod AnswersByKind
 -- settlings within the limits, and the bytes that hold them
 pub mod SettlingValues
+-- samples as bytes
+pub mod SettlingSampleBytes
 -- one name that opens every definition, for tables
 pub mod AnswersComputing
