@@ -2,3 +2,5 @@
 pub mod SettlingLaws
 -- what sound records hold by places
 pub mod SettlingContentsHeld
+-- what a check's answer tells
+pub mod SettlingEntered
