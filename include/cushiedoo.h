@@ -12,9 +12,9 @@
  * call changes nothing. No call keeps a pointer or touches anything but its lists, so calls may run at once.
  *
  * Ranges. Variables n: 1 to 16. Loop rows m (of each path) and stem rows ms: 0 to 64 each. Paths of a loop: 1 to 8, and
- * components of an argument for them too. Right sides b, d and s0: 2,000,000,000 either way. Entries of a state:
- * 1,000,000 either way. docs/FORMAT.md has those of the other values. No start or fall is beyond 7,800,000,000,000,000
- * either way.
+ * components of an argument for them too. Right sides b, d and s0 and the threshold t: 2,000,000,000 either way.
+ * Entries of a state: 1,000,000 either way. docs/FORMAT.md has those of the other values. No start or fall is beyond
+ * 7,800,000,000,000,000 either way.
  *
  * Refusals. Every answer starts with a number and a place:
  *
@@ -29,7 +29,7 @@
  *                                                                                  an argument for kinds 2 to 4
  *   CUSHIEDOO_VALUE      6  value out of range, the first in layout order          its first byte
  *   CUSHIEDOO_ROOM       7  room too small                                         room needed
- *   CUSHIEDOO_FAILS      8  no longer given: 21 to 53 say which condition fails
+ *   CUSHIEDOO_FAILS      8  no longer given: 21 to 63 say which condition fails
  *   CUSHIEDOO_STATE      9  state entry out of range, the first                    its index, from 0
  *   CUSHIEDOO_ENTRIES   10  state doesn't have n entries                           number of entries
  *   CUSHIEDOO_OUTSIDE   11  lasso state outside the invariant                      0
@@ -60,6 +60,10 @@
  *                      or their right sides to more than -fall
  *                  53  unaffecting: they do not sum to -r.x + r.x' of an earlier   the first such path
  *                      component, or their right sides to more than 0
+ *   settling       61  EA is not k g                                               the first such column
+ *                  62  EA' is not -k g                                             the first such column
+ *                  63  Eb is above -k: g.x does not rise                           0
+ *                      and then 21 to 24, over the loop with the row -g.x <= -t added at the end
  *
  * Places count bytes from the record's first byte unless the table says otherwise. On a refusal all other fields of the
  * answer are 0, but for the record that a verdict speaks of.
@@ -101,11 +105,12 @@ enum {
 
 /* The outcome of a verdict: the kind of the certificate that gave it. */
 enum {
-    CUSHIEDOO_NOTHING = 0,      /* refused */
-    CUSHIEDOO_RANKING = 2,      /* with start and fall */
-    CUSHIEDOO_EXCLUSION = 3,    /* with a grade; it does not say that the loop runs for ever */
-    CUSHIEDOO_LASSO = 4,        /* with start and fall */
-    CUSHIEDOO_LEXICOGRAPHIC = 6 /* no run through the paths goes on for ever; no start, fall or grade */
+    CUSHIEDOO_NOTHING = 0,       /* refused */
+    CUSHIEDOO_RANKING = 2,       /* with start and fall */
+    CUSHIEDOO_EXCLUSION = 3,     /* with a grade; it does not say that the loop runs for ever */
+    CUSHIEDOO_LASSO = 4,         /* with start and fall */
+    CUSHIEDOO_LEXICOGRAPHIC = 6, /* no run through the paths goes on for ever; no start, fall or grade */
+    CUSHIEDOO_SETTLING = 8       /* with start and fall; no run goes on for ever, and g.x rises to t first */
 };
 
 /*
@@ -141,7 +146,8 @@ typedef struct {
     uint64_t place;
     uint64_t record;  /* the record it speaks of */
     uint64_t outcome; /* what was accepted */
-    /* Of a ranking, for every step; of a lasso, for every step from a state that meets its invariant; else 0: */
+    /* Of a ranking, for every step; of a lasso, for every step from a state that meets its invariant; of a settling,
+       for every step from a state where g.x is at least t; else 0: */
     int64_t start;  /* r.x is at least this before the step */
     int64_t fall;   /* r.x falls by at least this in the step */
     uint64_t grade; /* of an exclusion */
@@ -156,7 +162,9 @@ typedef struct {
     int64_t start;
     int64_t fall;
     uint64_t grade;
-    uint64_t bound; /* no run from the state takes more steps than this; a lasso's state outside its invariant gives 11 */
+    /* No run from the state takes more steps than this; a lasso's state outside its invariant gives 11. Of a settling: no
+       run from the state takes more steps than this from states where g.x is below t. */
+    uint64_t bound;
 } cushiedoo_bounded;
 
 /*
@@ -190,9 +198,10 @@ cushiedoo_writing cushiedoo_write_record(uint64_t kind, uint64_t n, uint64_t m, 
 cushiedoo_writing cushiedoo_sheet(const uint8_t *input, size_t input_len, uint8_t *text, size_t text_len);
 
 /*
- * Judges a certificate for a loop. On acceptance of a ranking or a lasso the first n numbers of the rank list are r; an
- * exclusion needs and touches none. Refusals: those of the loop record, those of the certificate, 7 (kinds 2 and 4
- * only), those of the conditions, in this order.
+ * Judges a certificate for a loop. On acceptance of a ranking, a lasso or a settling the first n numbers of the rank
+ * list are r; an exclusion needs and touches none. Refusals: those of the loop record, those of the certificate, 7 (kinds
+ * 2, 4 and 8 only), those of the conditions, in this order. A settling (kind 8) is taken by this call and by
+ * cushiedoo_bound alone.
  *
  * A loop of several paths (kind 5) and a lexicographic argument (kind 6) are judged only together: with another record
  * either gives 4 of the certificate. They need and touch no rank list. Their counts stand in two places, and 3 is told
@@ -204,8 +213,10 @@ cushiedoo_verdict cushiedoo_judge(const uint8_t *loop, size_t loop_len, const ui
 
 /*
  * Judges a ranking or a lasso and tells how many steps a run from the state can take at most. For a lasso that is
- * promised for runs whose first state follows a step of the stem. Refusals: those of the loop record (kind 5 gives 4),
- * those of the certificate (kinds 3 and 6 give 4), 10, 9, those of the conditions, 11, in this order.
+ * promised for runs whose first state follows a step of the stem. Of a settling it tells how many steps at most a run
+ * takes before g.x has reached t: t - g.x, or 0 if that is negative. How many follow is not told. Refusals: those of the
+ * loop record (kind 5 gives 4), those of the certificate (kinds 3 and 6 give 4), 10, 9, those of the conditions, 11 (of
+ * a lasso), in this order.
  */
 cushiedoo_bounded cushiedoo_bound(const uint8_t *loop, size_t loop_len, const uint8_t *certificate,
                                   size_t certificate_len, const int64_t *state, size_t state_len);

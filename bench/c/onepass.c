@@ -10,7 +10,7 @@
 
 enum { MOST_VARIABLES = 16, MOST_ROWS = 64, MOST_PATHS = 8, MOST_COMPONENTS = 8 };
 
-/* The largest b, d and s0, and the largest entry of a state, either way. */
+/* The largest b, d, s0 and t, and the largest entry of a state, either way. */
 static const int64_t MOST_RIGHT = 2000000000, MOST_STATE = 1000000;
 
 static inline uint32_t u16_at(const uint8_t *p) { return (uint32_t)p[0] | (uint32_t)p[1] << 8; }
@@ -52,7 +52,7 @@ typedef struct {
     uint64_t kind, n;
     int64_t r[MOST_VARIABLES], start, fall;
     uint64_t grade;
-    const uint8_t *s; /* of a lasso: where s and s0 stand */
+    const uint8_t *s; /* where a lasso's s and s0 stand, or a settling's g and t */
 } found;
 
 /* The tests of a record's bytes against the L that it states. */
@@ -97,6 +97,7 @@ static fault certificate_frame(const uint8_t *bytes, size_t len, bool exclusions
         *ms = u16_at(bytes + 6);
         if (*ms > MOST_ROWS) return fault_of(5, 6);
         return len == 22 + 2 * n + *ms * (4 * n + 6) + 6 * m ? none : fault_of(3, 0);
+    case 8: return len == 16 + 2 * n + 6 * m ? none : fault_of(3, 0);
     default: return fault_of(4, 4);
     }
 }
@@ -307,10 +308,11 @@ static void clear_part(part_totals *part, uint64_t n)
     part->right = 0;
 }
 
-/* Where the totals are not (h s, -k s) and at most (k - h) s0: three conditions, numbered from the first. */
-static fault part_fault(uint64_t first, part_totals *part, const uint8_t *s, uint64_t n, int64_t k, int64_t h)
+/* Where the totals are not (h s, -k s) and at most the limit: three conditions, numbered from the first. */
+static fault part_fault(uint64_t first, part_totals *part, const uint8_t *s, uint64_t n, int64_t k, int64_t h,
+                        int64_t limit)
 {
-    int64_t s0 = i32_at(s + 2 * n), any = 0;
+    int64_t any = 0;
     for (uint64_t j = 0; j < n; j++) {
         int64_t entry = i16_at(s + 2 * j);
         part->now[j] -= h * entry;
@@ -321,7 +323,7 @@ static fault part_fault(uint64_t first, part_totals *part, const uint8_t *s, uin
         fault told = column_fault(first, part->now, n);
         return told.number ? told : column_fault(first + 1, part->next, n);
     }
-    return part->right <= (k - h) * s0 ? none : fault_of(first + 2, 0);
+    return part->right <= limit ? none : fault_of(first + 2, 0);
 }
 
 /* The pass over the stem: TB, TB', Td. */
@@ -345,7 +347,7 @@ static fault pass_stem(part_totals *part, const uint8_t *certificate, const lass
     return none;
 }
 
-/* Adds one loop row to the ranking's totals and to those of "kept". */
+/* Adds one loop row to the ranking's totals and to those of "kept", or of the rise. */
 static inline int add_kept_row(ranking_totals *totals, part_totals *kept, const uint8_t *row, uint64_t n, int64_t h,
                                 int64_t y, int64_t z)
 {
@@ -368,9 +370,8 @@ static inline int add_kept_row(ranking_totals *totals, part_totals *kept, const 
 }
 
 /* Adds the row -s.x <= s0 with its weights. */
-static void add_invariant(ranking_totals *totals, const uint8_t *s, uint64_t n, int64_t y, int64_t z)
+static void add_last_row(ranking_totals *totals, const uint8_t *s, int64_t s0, uint64_t n, int64_t y, int64_t z)
 {
-    int64_t s0 = i32_at(s + 2 * n);
     for (uint64_t j = 0; j < n; j++) {
         int64_t entry = i16_at(s + 2 * j);
         totals->difference[j] -= (y - z) * entry;
@@ -401,11 +402,49 @@ static void pass_lasso(found *told, const uint8_t *loop, uint64_t m, const uint8
     if (told->certificate.number) return;
     told->certificate = lasso_fault(certificate, &at, n, m);
     if (told->certificate.number) return;
-    add_invariant(&totals, s, n, u16_at(certificate + at.y + 2 * m), u16_at(certificate + at.z + 2 * m));
+    int64_t s0 = i32_at(certificate + at.s0), k = u16_at(certificate + at.k);
+    int64_t k2 = u16_at(certificate + at.k2), h0 = u16_at(certificate + at.h0);
+    add_last_row(&totals, s, s0, n, u16_at(certificate + at.y + 2 * m), u16_at(certificate + at.z + 2 * m));
     told->s = s;
-    told->condition = part_fault(41, &stem, s, n, u16_at(certificate + at.k), 0);
+    told->condition = part_fault(41, &stem, s, n, k, 0, k * s0);
     if (told->condition.number) return;
-    told->condition = part_fault(44, &kept, s, n, u16_at(certificate + at.k2), u16_at(certificate + at.h0));
+    told->condition = part_fault(44, &kept, s, n, k2, h0, (k2 - h0) * s0);
+    if (told->condition.number) return;
+    conclude(told, &totals);
+}
+
+/* The first value of a settling that is out of range. */
+static fault settling_fault(const uint8_t *bytes, uint64_t n, uint64_t m)
+{
+    uint64_t t = 6 + 2 * n, k = t + 4;
+    for (uint64_t j = 0; j < n; j++)
+        if (entry_bad(i16_at(bytes + 6 + 2 * j))) return fault_of(6, 6 + 2 * j);
+    if (right_bad(i32_at(bytes + t))) return fault_of(6, t);
+    if (scale_bad(u16_at(bytes + k))) return fault_of(6, k);
+    return multiplier_fault(bytes, k + 2, m + 2 * (m + 1));
+}
+
+static void pass_settling(found *told, const uint8_t *loop, uint64_t m, const uint8_t *certificate)
+{
+    uint64_t n = told->n, width = 4 * n + 4;
+    const uint8_t *g = certificate + 6, *e = g + 2 * n + 6, *y = e + 2 * m, *z = y + 2 * (m + 1);
+    part_totals rise;
+    ranking_totals totals;
+    clear_part(&rise, n);
+    clear_totals(&totals, n);
+    for (uint64_t i = 0; i < m; i++) {
+        const uint8_t *row = loop + 10 + i * width;
+        if (add_kept_row(&totals, &rise, row, n, u16_at(e + 2 * i), u16_at(y + 2 * i), u16_at(z + 2 * i))) {
+            told->loop = row_fault(row, n, 10 + i * width);
+            return;
+        }
+    }
+    told->certificate = settling_fault(certificate, n, m);
+    if (told->certificate.number) return;
+    int64_t t = i32_at(g + 2 * n), k = u16_at(g + 2 * n + 4);
+    add_last_row(&totals, g, -t, n, u16_at(y + 2 * m), u16_at(z + 2 * m));
+    told->s = g;
+    told->condition = part_fault(61, &rise, g, n, k, k, -k);
     if (told->condition.number) return;
     conclude(told, &totals);
 }
@@ -558,6 +597,7 @@ static void pass(found *told, const uint8_t *loop, size_t loop_len, const uint8_
     switch (told->kind) {
     case 2: pass_ranking(told, loop, m, certificate); break;
     case 3: pass_exclusion(told, loop, m, certificate); break;
+    case 8: pass_settling(told, loop, m, certificate); break;
     default: pass_lasso(told, loop, m, certificate, ms);
     }
 }
@@ -591,7 +631,7 @@ cushiedoo_verdict onepass_judge(const uint8_t *loop, size_t loop_len, const uint
     pass(&told, loop, loop_len, certificate, certificate_len, true);
     if (told.loop.number) return refused(told.loop.number, told.loop.place, 1);
     if (told.certificate.number) return refused(told.certificate.number, told.certificate.place, 2);
-    bool ranked = told.kind == CUSHIEDOO_RANKING || told.kind == CUSHIEDOO_LASSO;
+    bool ranked = told.kind != CUSHIEDOO_EXCLUSION && told.kind != CUSHIEDOO_LEXICOGRAPHIC;
     if (ranked && rank_len < told.n) return refused(7, told.n, 0);
     if (told.condition.number) return refused(told.condition.number, told.condition.place, 2);
     if (ranked) memcpy(rank, told.r, told.n * sizeof *rank);
@@ -606,12 +646,25 @@ static cushiedoo_bounded unbounded(cushiedoo_verdict verdict)
     return bounded;
 }
 
+/* s.x of a lasso, g.x of a settling. */
+static int64_t value_at(const uint8_t *s, const int64_t *state, uint64_t n)
+{
+    int64_t sum = 0;
+    for (uint64_t j = 0; j < n; j++) sum += i16_at(s + 2 * j) * state[j];
+    return sum;
+}
+
 /* Whether s.x + s0 >= 0. */
 static bool invariant_holds(const uint8_t *s, const int64_t *state, uint64_t n)
 {
-    int64_t sum = i32_at(s + 2 * n);
-    for (uint64_t j = 0; j < n; j++) sum += i16_at(s + 2 * j) * state[j];
-    return sum >= 0;
+    return value_at(s, state, n) + i32_at(s + 2 * n) >= 0;
+}
+
+/* t - g.x, or 0 if that is negative. */
+static uint64_t steps_to_threshold(const uint8_t *g, const int64_t *state, uint64_t n)
+{
+    int64_t missing = i32_at(g + 2 * n) - value_at(g, state, n);
+    return missing < 0 ? 0 : (uint64_t)missing;
 }
 
 static uint64_t bound_at(const found *told, const int64_t *state)
@@ -635,6 +688,6 @@ cushiedoo_bounded onepass_bound(const uint8_t *loop, size_t loop_len, const uint
     if (told.condition.number) return unbounded(refused(told.condition.number, told.condition.place, 2));
     if (told.kind == CUSHIEDOO_LASSO && !invariant_holds(told.s, state, told.n)) return unbounded(refused(11, 0, 2));
     bounded = unbounded(accepted(&told));
-    bounded.bound = bound_at(&told, state);
+    bounded.bound = told.kind == CUSHIEDOO_SETTLING ? steps_to_threshold(told.s, state, told.n) : bound_at(&told, state);
     return bounded;
 }

@@ -11,7 +11,7 @@ const MOST_PATHS: usize = 8;
 const MOST_COMPONENTS: usize = 8;
 /// Bounded, ranking, and unaffecting for each component before the last.
 const MOST_LISTS: usize = 2 + MOST_COMPONENTS - 1;
-/// The largest b, d and s0, either way.
+/// The largest b, d, s0 and t, either way.
 const MOST_RIGHT: i64 = 2_000_000_000;
 /// The largest entry of a state, either way.
 const MOST_STATE: i64 = 1_000_000;
@@ -38,7 +38,7 @@ impl Rows {
     };
 }
 
-/// Multipliers in a fixed array; a lasso has one more than there are rows.
+/// Multipliers in a fixed array; a lasso and a settling have one more than there are rows.
 type Multipliers = [i64; MOST_ROWS + 1];
 type Entries = [i64; MOST_VARIABLES];
 
@@ -262,6 +262,38 @@ impl Lasso {
         cursor.multipliers(&mut self.ranking.y[..m + 1])?;
         cursor.multipliers(&mut self.ranking.z[..m + 1])
     }
+}
+
+struct Settling {
+    g: Entries,
+    t: i64,
+    k: i64,
+    e: Multipliers,
+    ranking: Ranking,
+}
+
+fn parse_settling(bytes: &[u8], n: usize, m: usize) -> Result<Settling, Fault> {
+    if bytes.len() != 16 + 2 * n + 6 * m {
+        return Err((3, 0));
+    }
+    let mut settling = Settling {
+        g: NO_ENTRIES,
+        t: 0,
+        k: 0,
+        e: NO_MULTIPLIERS,
+        ranking: Ranking {
+            y: NO_MULTIPLIERS,
+            z: NO_MULTIPLIERS,
+        },
+    };
+    let mut cursor = Cursor { bytes, place: 6 };
+    cursor.entries(&mut settling.g[..n])?;
+    settling.t = cursor.i32(MOST_RIGHT)?;
+    settling.k = cursor.scale()?;
+    cursor.multipliers(&mut settling.e[..m])?;
+    cursor.multipliers(&mut settling.ranking.y[..m + 1])?;
+    cursor.multipliers(&mut settling.ranking.z[..m + 1])?;
+    Ok(settling)
 }
 
 /// A loop of several paths; only as many arrays are cleared as it has paths.
@@ -551,6 +583,24 @@ impl Lasso {
     }
 }
 
+impl Settling {
+    fn rises(&self, rows: &Rows, n: usize) -> Result<(), Fault> {
+        let e = &self.e;
+        each(61, n, |j| {
+            column(e, rows, &rows.now, j) == self.k * self.g[j]
+        })?;
+        each(62, n, |j| {
+            column(e, rows, &rows.next, j) == -self.k * self.g[j]
+        })?;
+        each(63, 1, |_| right(e, rows) <= -self.k)
+    }
+
+    fn rank(&self, rows: &Rows, n: usize) -> Result<Rank, Fault> {
+        self.rises(rows, n)?;
+        rank(&self.ranking, rows, n, &self.g, -self.t)
+    }
+}
+
 fn of_loop((number, place): Fault) -> Refused {
     (number, place, 1)
 }
@@ -614,6 +664,12 @@ fn judged(looped: &[u8], certificate: &[u8], list: &mut [i64]) -> Result<Verdict
             room_for(n, list)?;
             let rank = lasso.rank(&rows, n).map_err(of_certificate)?;
             Ok(fill(list, &rank, n, 4))
+        }
+        8 => {
+            let settling = parse_settling(certificate, n, m).map_err(of_certificate)?;
+            room_for(n, list)?;
+            let rank = settling.rank(&rows, n).map_err(of_certificate)?;
+            Ok(fill(list, &rank, n, 8))
         }
         _ => Err((4, 4, 2)),
     }
@@ -689,6 +745,13 @@ fn bounded(looped: &[u8], certificate: &[u8], state: &[i64]) -> Result<(Verdict,
                 return Err((11, 0, 2));
             }
             Ok(bound_at(&rank, state, 4))
+        }
+        8 => {
+            let settling = parse_settling(certificate, n, m).map_err(of_certificate)?;
+            state_in_range(state, n)?;
+            let rank = settling.rank(&rows, n).map_err(of_certificate)?;
+            let missing = settling.t - dot(&settling.g, state);
+            Ok((verdict(8, rank.start, rank.fall, 0), missing.max(0) as u64))
         }
         _ => Err((4, 4, 2)),
     }

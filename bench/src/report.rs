@@ -120,6 +120,7 @@ pub fn growth_table(markdown: bool, measured: &[(Subject, Vec<Time>)]) {
             Kind::Exclusion,
             Kind::Lasso,
             Kind::Lexicographic,
+            Kind::Settling,
         ] {
             let wanted = (call, kind, Fill::Dense, Answer::Accepted);
             for (i, contender) in CONTENDERS.into_iter().enumerate() {
@@ -154,7 +155,7 @@ fn growth_cells(named: [String; 2], contender: Contender, points: &[(f64, f64)])
 }
 
 /// A sheet of many certificates against judging them one by one, both through the archive. Sheets take no arguments for
-/// several paths.
+/// several paths and no settlings.
 pub fn sheet_table(markdown: bool, subjects: &[Subject], repeats: usize) {
     let heads = [
         "kind",
@@ -167,7 +168,8 @@ pub fn sheet_table(markdown: bool, subjects: &[Subject], repeats: usize) {
     let mut table = Table::new(markdown, &heads);
     let accepted =
         |subject: &&Subject| subject.is((Call::Judge, subject.kind, Fill::Dense, Answer::Accepted));
-    let on_sheets = |subject: &&Subject| subject.kind != Kind::Lexicographic;
+    let on_sheets =
+        |subject: &&Subject| !matches!(subject.kind, Kind::Lexicographic | Kind::Settling);
     for subject in subjects.iter().filter(accepted).filter(on_sheets) {
         let count = ((65_536 - subject.looped.len()) / subject.certificate.len()).min(500);
         let input = [&subject.looped[..], &subject.certificate.repeat(count)].concat();

@@ -20,6 +20,7 @@ pub enum Kind {
     Exclusion,
     Lasso,
     Lexicographic,
+    Settling,
 }
 
 impl Kind {
@@ -29,6 +30,7 @@ impl Kind {
             Kind::Exclusion => 3,
             Kind::Lasso => 4,
             Kind::Lexicographic => 6,
+            Kind::Settling => 8,
         }
     }
 }
@@ -54,7 +56,7 @@ pub enum Answer {
     Accepted,
     /// Refused by the last condition: 24, or 32 in the last row; 53 of the last path, or 52 where it has no earlier component.
     Last,
-    /// Refused by the first condition in its first column, row or path: 21, 31, 41 or 51.
+    /// Refused by the first condition in its first column, row or path: 21, 31, 41, 51 or 61.
     First,
     /// Refused by a ranking's last equation in its last column: 23.
     Column,
@@ -62,6 +64,8 @@ pub enum Answer {
     Direction,
     /// Refused by the last condition on a lasso's invariant: 46.
     Kept,
+    /// Refused by the last condition on a settling's rise: 63.
+    Rise,
     /// Refused before any value is looked at: the loop record's kind is that of no loop.
     Early,
 }
@@ -69,13 +73,14 @@ pub enum Answer {
 pub const SIZES: [(usize, usize); 5] = [(1, 1), (2, 3), (4, 8), (8, 24), (16, 64)];
 /// With each of the sizes, so many paths, each with as many rows and a component of its own.
 const PATHS: [usize; 5] = [1, 2, 3, 4, 8];
-const KINDS: [Kind; 3] = [Kind::Ranking, Kind::Exclusion, Kind::Lasso];
+const KINDS: [Kind; 4] = [Kind::Ranking, Kind::Exclusion, Kind::Lasso, Kind::Settling];
 
 /// What is measured of a kind; one refusal is of this kind alone.
 fn answers(kind: Kind) -> [Answer; 5] {
     let own = match kind {
         Kind::Exclusion => Answer::Direction,
         Kind::Lasso => Answer::Kept,
+        Kind::Settling => Answer::Rise,
         _ => Answer::Column,
     };
     [
@@ -180,10 +185,12 @@ impl Subject {
             (Answer::Last, _) => (24, 0),
             (Answer::First, Kind::Exclusion) => (31, 0),
             (Answer::First, Kind::Lasso) if self.m > 1 => (41, 0),
+            (Answer::First, Kind::Settling) => (61, 0),
             (Answer::First, _) => (21, 0),
             (Answer::Column, _) => (23, last_column),
             (Answer::Direction, _) => (31, last_row),
             (Answer::Kept, _) => (46, 0),
+            (Answer::Rise, _) => (63, 0),
             (Answer::Early, _) => (4, 4),
         }
     }
@@ -305,6 +312,7 @@ fn subject(built: &Built, call: Call, fill: Fill, answer: Answer) -> Subject {
         Answer::Column => fail_column(&mut built),
         Answer::Direction => fail_direction(&mut built),
         Answer::Kept => fail_kept(&mut built),
+        Answer::Rise => fail_rise(&mut built),
     }
     let pair = &built.pair;
     let mut looped = pair.loop_bytes();
@@ -317,6 +325,7 @@ fn subject(built: &Built, call: Call, fill: Fill, answer: Answer) -> Subject {
             Certificate::Ranking(_) => Kind::Ranking,
             Certificate::Exclusion(_) => Kind::Exclusion,
             Certificate::Lasso(_) => Kind::Lasso,
+            Certificate::Settling(_) => Kind::Settling,
         },
         n: pair.n,
         m: pair.rows.len(),
@@ -329,10 +338,11 @@ fn subject(built: &Built, call: Call, fill: Fill, answer: Answer) -> Subject {
     }
 }
 
-/// A state that a lasso's invariant lets through.
+/// A state that a lasso's invariant lets through; of a settling one below its threshold.
 fn state_for(n: usize, certificate: &Certificate) -> Vec<i64> {
     match certificate {
         Certificate::Lasso(lasso) => lasso.s.iter().map(|s| 100 * s.signum()).collect(),
+        Certificate::Settling(settling) => settling.g.iter().map(|g| -100 * g.signum()).collect(),
         _ => (0..n as i64).map(|j| 100 - 7 * j).collect(),
     }
 }
@@ -356,6 +366,7 @@ fn build(kind: Kind, n: usize, m: usize, fill: Fill) -> Built {
         match kind {
             Kind::Exclusion => construct::exclusion(random, n, m, style),
             Kind::Lasso => construct::lasso(random, n, m, m, style),
+            Kind::Settling => construct::settling(random, n, m, style),
             _ => construct::ranking(random, n, m, style),
         }
     });
@@ -393,6 +404,11 @@ fn spread(built: &mut Built) {
             spread_rows(rows, &[&lasso.ranking.z, &lasso.h]);
             lower(&mut lasso.stem, pivots.stem);
             spread_rows(&mut lasso.stem, &[&lasso.t]);
+        }
+        Certificate::Settling(settling) => {
+            lower(rows, pivots.fall.or(Some(0)));
+            lower(rows, pivots.kept);
+            spread_rows(rows, &[&settling.ranking.z, &settling.e]);
         }
     }
 }
@@ -439,10 +455,25 @@ fn fits(built: &Built, m: usize) -> bool {
                 && weighty(&lasso.h) + if start_is_due { 2 } else { 1 } == m
                 && (m < 4 || weighty(&lasso.ranking.y[..m]) + 2 == m)
         }
+        Certificate::Settling(_) if m == 1 => true,
+        Certificate::Settling(settling) => {
+            let start_is_due = m > 2;
+            pivots.kept.is_some()
+                && pivots.start.is_some() == start_is_due
+                && weighty(&settling.g) > 0
+                && weighty(&settling.e) + if start_is_due { 2 } else { 1 } == m
+                && (m < 4 || weighty(&settling.ranking.y[..m]) + 2 == m)
+        }
     }
 }
 
 fn fail_last(built: &mut Built) {
+    if let Certificate::Settling(settling) = &mut built.pair.certificate {
+        // a row that no step meets is the only one: without it nothing falls
+        if built.pivots.fall.is_none() {
+            settling.ranking.z.fill(0);
+        }
+    }
     bring_to_edge(built, Inequality::Fall, 1);
     bring_to_edge(built, Inequality::Step, 1);
 }
@@ -460,6 +491,7 @@ fn fail_first(built: &mut Built) {
             Some(row) => lasso.stem[row].now[0] += 1,
             None => raise_next(rows, &lasso.ranking.y),
         },
+        Certificate::Settling(_) => rows[built.pivots.kept.unwrap_or(0)].now[0] += 1,
     }
 }
 
@@ -489,6 +521,14 @@ fn fail_kept(built: &mut Built) {
             lasso.h0 = lasso.k2 + 1;
         }
         _ => fail(built, 46, 0, 1),
+    }
+}
+
+/// Lets g·x not rise by the right sides.
+fn fail_rise(built: &mut Built) {
+    match built.pivots.kept {
+        Some(_) => fail(built, 63, 0, 1),
+        None => built.pair.rows[0].right = 0,
     }
 }
 

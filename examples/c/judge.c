@@ -37,6 +37,9 @@ static const char *failing(uint64_t number)
     case 51: return "this path's own component is not bounded";
     case 52: return "this path's own component does not fall";
     case 53: return "this path does not keep an earlier component from rising";
+    case 61: return "EA is not k g in this column";
+    case 62: return "EA' is not -k g in this column";
+    case 63: return "Eb is above -k";
     default: return "unknown number";
     }
 }
@@ -89,6 +92,12 @@ static void print_verdict(const cushiedoo_verdict *verdict, const int64_t *rank,
         printf("accepted: a %s with rank ", verdict->outcome == CUSHIEDOO_LASSO ? "lasso" : "ranking");
         print_list(rank, n);
         printf(", at least %" PRId64 " before each step, falling by at least %" PRId64 " in it\n", verdict->start,
+               verdict->fall);
+        break;
+    case CUSHIEDOO_SETTLING:
+        printf("accepted: a settling; once g.x has reached t, the rank ");
+        print_list(rank, n);
+        printf(" is at least %" PRId64 " before each step, falling by at least %" PRId64 " in it\n", verdict->start,
                verdict->fall);
         break;
     case CUSHIEDOO_EXCLUSION:

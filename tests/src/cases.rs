@@ -1,5 +1,6 @@
 //! The cases: for each call of the archive, inputs of every kind, valid, damaged, at and past the limits, and with
-//! conditions that just hold, just fail, or fail together. Those with loops of several paths stand in `path_cases`.
+//! conditions that just hold, just fail, or fail together. Those with loops of several paths stand in `path_cases`, those with
+//! settlings in `settling_cases`.
 
 use crate::construct::{self, Built, Inequality, Style};
 use crate::damage::{any_record, any_values, damage, limits};
@@ -8,10 +9,12 @@ use crate::oracle::conditions::{dot, Exclusion, Lasso};
 use crate::oracle::judging::{self, Certificate};
 use crate::oracle::layout::{Kind, Range, Shape, RIGHT, ROWS, STATE, VARIABLES};
 use crate::oracle::record::Record;
+use crate::oracle::settling::Settling;
 use crate::oracle::sheet::LONGEST_INPUT;
 use crate::path_cases;
 use crate::random::Random;
 use crate::right_sides;
+use crate::settling_cases;
 
 /// The room that a sheet is lent: measured by what a call with an empty room tells.
 #[derive(Clone, Copy, Debug)]
@@ -51,6 +54,12 @@ pub enum Case {
         certificate: Vec<u8>,
         room: usize,
     },
+    /// A loop with two certificates, which are judged one after the other and lent the same list.
+    JudgeBoth {
+        loop_bytes: Vec<u8>,
+        certificates: [Vec<u8>; 2],
+        room: usize,
+    },
     Bound {
         loop_bytes: Vec<u8>,
         certificate: Vec<u8>,
@@ -60,14 +69,15 @@ pub enum Case {
 
 /// The case that a generator gives.
 pub fn case(random: &mut Random) -> Case {
-    match random.below(23) {
-        0..=2 => read_loop(random),
-        3..=5 => read_certificate(random),
-        6..=8 => write_record(random),
-        9..=10 => sheet(random),
-        11..=15 => judge(random),
-        16..=19 => bound(random),
-        _ => path_cases::case(random),
+    match random.below(100) {
+        0..=8 => read_loop(random),
+        9..=17 => read_certificate(random),
+        18..=26 => write_record(random),
+        27..=32 => sheet(random),
+        33..=52 => judge(random),
+        53..=68 => bound(random),
+        69..=81 => path_cases::case(random),
+        _ => settling_cases::case(random),
     }
 }
 
@@ -83,7 +93,7 @@ pub(crate) fn some_style(random: &mut Random) -> Style {
 }
 
 /// n and m, mostly small, and often at their limits.
-fn some_size(random: &mut Random) -> (usize, usize) {
+pub(crate) fn some_size(random: &mut Random) -> (usize, usize) {
     match random.below(12) {
         0..=7 => (1 + random.below(4), random.below(9)),
         8 => (random.pick(&[1, 16]), random.pick(&[0, 1, 2, 3])),
@@ -117,12 +127,14 @@ fn some_built_with(random: &mut Random, kind: Kind, rows: usize, stem_rows: usiz
             let ms = some_stem_rows(random).max(stem_rows);
             construct::lasso(random, n, m, ms, style)
         }
+        Kind::Settling => construct::settling(random, n, m, style),
         _ if random.one_in(8) => construct::steep_ranking(random, n, m),
         _ => construct::ranking(random, n, m, style),
     }
 }
 
-const INEQUALITIES: [Inequality; 5] = [
+const INEQUALITIES: [Inequality; 6] = [
+    Inequality::Rise,
     Inequality::Fall,
     Inequality::Kept,
     Inequality::Start,
@@ -137,8 +149,9 @@ fn break_conditions(random: &mut Random, built: &mut Built) {
         1 => {
             let of_kind = match built.pair.certificate {
                 Certificate::Ranking(_) => Inequality::Fall,
-                Certificate::Exclusion(_) => random.pick(&INEQUALITIES[3..]),
-                Certificate::Lasso(_) => random.pick(&INEQUALITIES[..3]),
+                Certificate::Exclusion(_) => random.pick(&INEQUALITIES[4..]),
+                Certificate::Lasso(_) => random.pick(&INEQUALITIES[1..4]),
+                Certificate::Settling(_) => random.pick(&INEQUALITIES[..2]),
             };
             construct::bring_to_edge(built, of_kind, 1);
         }
@@ -188,6 +201,9 @@ fn change_any_value_by_one(random: &mut Random, pair: &mut Pair) {
         }) => {
             vec![s, t, h, &mut ranking.y, &mut ranking.z]
         }
+        Certificate::Settling(Settling { g, e, ranking, .. }) => {
+            vec![g, e, &mut ranking.y, &mut ranking.z]
+        }
     };
     let mut lists: Vec<_> = lists.into_iter().filter(|list| !list.is_empty()).collect();
     if !lists.is_empty() {
@@ -200,7 +216,8 @@ fn change_any_value_by_one(random: &mut Random, pair: &mut Pair) {
 
 /// A loop and a certificate, well formed: accepted, or with conditions that fail, or of any values.
 pub(crate) fn some_pair(random: &mut Random, kind: Kind) -> Built {
-    let breaks = random.below(8) < if kind == Kind::Lasso { 3 } else { 2 };
+    let many_conditions = matches!(kind, Kind::Lasso | Kind::Settling);
+    let breaks = random.below(8) < if many_conditions { 3 } else { 2 };
     let mut built = match breaks && !random.one_in(5) {
         true => some_built_with(random, kind, 3, 1),
         false => some_built(random, kind),
@@ -238,7 +255,7 @@ fn any_certificate(random: &mut Random, pair: &Pair) -> Certificate {
     judging::certificate(Record { shape, values })
 }
 
-fn scaled(random: &mut Random, mut pair: Pair) -> Pair {
+pub(crate) fn scaled(random: &mut Random, mut pair: Pair) -> Pair {
     if random.one_in(2) {
         construct::scale(&mut pair.certificate, random);
     }
@@ -246,7 +263,11 @@ fn scaled(random: &mut Random, mut pair: Pair) -> Pair {
 }
 
 /// The bytes of both records. One of the two, or both, may be damaged, more than once.
-fn some_bytes(random: &mut Random, pair: &Pair, damaged_in: usize) -> (Vec<u8>, Vec<u8>) {
+pub(crate) fn some_bytes(
+    random: &mut Random,
+    pair: &Pair,
+    damaged_in: usize,
+) -> (Vec<u8>, Vec<u8>) {
     let (mut looped, mut certificate) = (pair.loop_bytes(), pair.certificate_bytes());
     if random.below(10) < damaged_in {
         let which = random.below(9);
@@ -391,7 +412,16 @@ fn move_right_side(random: &mut Random, shape: Shape, values: &mut [i64]) {
 fn some_kind_number(random: &mut Random, right: u64) -> u64 {
     match random.below(20) {
         0 => random.pick(&[1, 2, 3, 4]),
-        1 => random.pick(&[0, 5, 6, 9, u64::MAX, right + (1 << 16), right + (1 << 32)]),
+        1 => random.pick(&[
+            0,
+            5,
+            6,
+            8,
+            9,
+            u64::MAX,
+            right + (1 << 16),
+            right + (1 << 32),
+        ]),
         _ => right,
     }
 }
@@ -423,6 +453,11 @@ fn write_record(random: &mut Random) -> Case {
 
 fn judge(random: &mut Random) -> Case {
     let kind = some_certificate_kind(random);
+    judge_kind(random, kind)
+}
+
+/// A certificate of this kind, judged.
+pub(crate) fn judge_kind(random: &mut Random, kind: Kind) -> Case {
     let pair = some_pair(random, kind).pair;
     let pair = scaled(random, pair);
     let (loop_bytes, certificate) = some_bytes(random, &pair, 3);
@@ -468,7 +503,7 @@ fn move_start(random: &mut Random, built: &mut Built, state: &[i64]) {
     let rank = match &built.pair.certificate {
         Certificate::Ranking(ranking) => ranking.judged(n, rows),
         Certificate::Lasso(lasso) => lasso.judged(n, rows),
-        Certificate::Exclusion(_) => return,
+        Certificate::Exclusion(_) | Certificate::Settling(_) => return,
     };
     let Ok(rank) = rank else { return };
     let value: i128 = rank
@@ -536,10 +571,15 @@ fn steep_pair_and_far_state(random: &mut Random) -> (Pair, Vec<i64>) {
 }
 
 fn bound(random: &mut Random) -> Case {
-    let (pair, mut state) = match random.below(12) {
+    let (pair, state) = match random.below(12) {
         0 => steep_pair_and_far_state(random),
         _ => pair_and_state(random),
     };
+    bound_at(random, pair, state)
+}
+
+/// The pair's bound at the state, either of which may be spoilt.
+pub(crate) fn bound_at(random: &mut Random, pair: Pair, mut state: Vec<i64>) -> Case {
     if random.one_in(8) {
         spoil_state(random, &mut state);
     }

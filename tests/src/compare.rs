@@ -14,16 +14,19 @@ pub enum Told {
     Reading(Reading),
     Writing(Writing),
     Verdict(Verdict),
+    Verdicts([Verdict; 2]),
     Bounded(Bounded),
 }
 
 impl Told {
-    /// The refusal number and its place.
+    /// The refusal number and its place; of two verdicts those of the first.
     pub fn refusal(&self) -> Refusal {
         let (number, place) = match self {
             Told::Reading(reading) => (reading.number, reading.place),
             Told::Writing(writing) => (writing.number, writing.place),
-            Told::Verdict(verdict) => (verdict.number, verdict.place),
+            Told::Verdict(verdict) | Told::Verdicts([verdict, _]) => {
+                (verdict.number, verdict.place)
+            }
             Told::Bounded(bounded) => (bounded.verdict.number, bounded.verdict.place),
         };
         Refusal { number, place }
@@ -34,7 +37,9 @@ impl Told {
         match self {
             Told::Reading(reading) => (reading.number, 0),
             Told::Writing(writing) => (writing.number, 0),
-            Told::Verdict(verdict) => (verdict.number, verdict.record),
+            Told::Verdict(verdict) | Told::Verdicts([verdict, _]) => {
+                (verdict.number, verdict.record)
+            }
             Told::Bounded(bounded) => (bounded.verdict.number, bounded.verdict.record),
         }
     }
@@ -153,6 +158,15 @@ pub fn expected(case: &Case) -> Answer {
         } => numbers(*room, |list| {
             Told::Verdict(judging::judge(loop_bytes, certificate, list))
         }),
+        Case::JudgeBoth {
+            loop_bytes,
+            certificates,
+            room,
+        } => numbers(*room, |list| {
+            let mut judge = |certificate: &[u8]| judging::judge(loop_bytes, certificate, list);
+            let [first, second] = certificates;
+            Told::Verdicts([judge(first), judge(second)])
+        }),
         Case::Bound {
             loop_bytes,
             certificate,
@@ -195,7 +209,19 @@ pub fn archive(case: &Case, shift: usize) -> Answer {
             room,
         } => numbers(*room, |list| {
             let [looped, certificate] = unaligned_pair(loop_bytes, certificate, shift);
-            archive_judges(&looped, &certificate, list)
+            Told::Verdict(archive_judges(&looped, &certificate, list))
+        }),
+        Case::JudgeBoth {
+            loop_bytes,
+            certificates,
+            room,
+        } => numbers(*room, |list| {
+            let mut judge = |certificate: &[u8]| {
+                let [looped, certificate] = unaligned_pair(loop_bytes, certificate, shift);
+                archive_judges(&looped, &certificate, list)
+            };
+            let [first, second] = certificates;
+            Told::Verdicts([judge(first), judge(second)])
         }),
         Case::Bound {
             loop_bytes,
@@ -326,7 +352,7 @@ fn archive_sheet(input: &[u8], text: &mut [u8]) -> Writing {
     })
 }
 
-fn archive_judges(looped: &[u8], certificate: &[u8], rank: &mut [i64]) -> Told {
+fn archive_judges(looped: &[u8], certificate: &[u8], rank: &mut [i64]) -> Verdict {
     // SAFETY: the slices are valid for their lengths and stand apart.
     let raw = unsafe {
         raw::cushiedoo_judge(
@@ -338,7 +364,7 @@ fn archive_judges(looped: &[u8], certificate: &[u8], rank: &mut [i64]) -> Told {
             rank.len(),
         )
     };
-    Told::Verdict(Verdict {
+    Verdict {
         number: raw.number,
         place: raw.place,
         record: raw.record,
@@ -346,7 +372,7 @@ fn archive_judges(looped: &[u8], certificate: &[u8], rank: &mut [i64]) -> Told {
         start: raw.start,
         fall: raw.fall,
         grade: raw.grade,
-    })
+    }
 }
 
 fn archive_bounds(looped: &[u8], certificate: &[u8], state: &[i64]) -> Told {

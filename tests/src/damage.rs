@@ -41,6 +41,7 @@ pub fn damage(random: &mut Random, shape: Shape, bytes: &mut Vec<u8>) {
         2 => restate_length(random, bytes),
         3 => resize(random, bytes),
         4 | 5 => change_kind(random, bytes),
+        6..=10 if shape.kind == Kind::Settling => change_part(random, shape, bytes),
         6 | 7 => change_count(random, shape, bytes),
         8 | 9 if shape.kind == Kind::Lasso => change_count(random, shape, bytes),
         10 if shape.kind == Kind::Lasso => change_right_side(random, shape, bytes),
@@ -158,6 +159,33 @@ fn change_value(random: &mut Random, shape: Shape, bytes: &mut [u8]) {
     let place = shape.places()[chosen];
     let value = field_limit(random, fields[chosen]);
     fields[chosen].form.put(value, bytes, place);
+}
+
+/// A value of any part of a settling, mostly the part's first or last, and mostly one past an end of its range.
+fn change_part(random: &mut Random, shape: Shape, bytes: &mut [u8]) {
+    let fields = shape.fields();
+    if bytes.len() != 4 + shape.length() {
+        return;
+    }
+    let parts = shape.settling_parts();
+    let part = parts[random.below(parts.len())].clone();
+    if part.is_empty() {
+        return;
+    }
+    let chosen = match random.below(3) {
+        0 => part.start,
+        1 => part.end - 1,
+        _ => part.start + random.below(part.len()),
+    };
+    let Range { low, high } = fields[chosen].range;
+    let past = [(low - 1).max(fields[chosen].form.holds().low), high + 1];
+    let value = match random.one_in(5) {
+        true => field_limit(random, fields[chosen]),
+        false => random.pick(&past),
+    };
+    fields[chosen]
+        .form
+        .put(value, bytes, shape.places()[chosen]);
 }
 
 /// A right side one past an end of its range; of a lasso's, one time in three s0, the last of them.

@@ -6,6 +6,7 @@ use crate::oracle::judging::Certificate;
 use crate::oracle::layout::{Field, Form, Kind, Shape};
 use crate::oracle::lexicographic::{Branches, Component, Lexicographic, Part};
 use crate::oracle::paths::{CertificateShape, LEXICOGRAPHIC, PATH_LOOP};
+use crate::oracle::settling::Settling;
 
 /// A loop with a certificate for it, which may or may not be accepted.
 #[derive(Clone, Debug)]
@@ -46,6 +47,7 @@ pub fn certificate_shape(certificate: &Certificate, n: usize, m: usize) -> Shape
         Certificate::Ranking(_) => (Kind::Ranking, 0),
         Certificate::Exclusion(_) => (Kind::Exclusion, 0),
         Certificate::Lasso(lasso) => (Kind::Lasso, lasso.stem.len()),
+        Certificate::Settling(_) => (Kind::Settling, 0),
     };
     Shape { kind, n, m, ms }
 }
@@ -74,6 +76,13 @@ pub fn certificate_values(certificate: &Certificate) -> Vec<i64> {
             &lasso.ranking.z,
         ]
         .concat(),
+        Certificate::Settling(Settling {
+            g,
+            t,
+            k,
+            e,
+            ranking,
+        }) => [&g[..], &[*t, *k], e, &ranking.y, &ranking.z].concat(),
     }
 }
 

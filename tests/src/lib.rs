@@ -3,10 +3,10 @@
 //!
 //! - [`oracle`] is the paper, plainly rendered; it leans on nothing else here.
 //! - [`construct`], [`damage`] and [`cases`] make the inputs from a seed; those with loops of several paths [`path_damage`]
-//!   and [`path_cases`].
+//!   and [`path_cases`], those with settlings [`settling_cases`].
 //! - [`compare`] calls the archive, and compares every number told and every entry of every list lent.
-//! - [`tally`] counts what came up ([`right_sides`], [`grades`] and [`path_ways`] those of a case), and says which quotas
-//!   are not met.
+//! - [`tally`] counts what came up ([`right_sides`], [`grades`], [`path_ways`] and [`settling_ways`] those of a case), and says
+//!   which quotas are not met.
 
 pub mod cases;
 pub mod compare;
@@ -20,4 +20,6 @@ pub mod path_damage;
 pub mod path_ways;
 pub mod random;
 pub mod right_sides;
+pub mod settling_cases;
+pub mod settling_ways;
 pub mod tally;

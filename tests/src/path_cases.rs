@@ -222,6 +222,12 @@ fn some_bytes(random: &mut Random, pair: &PathPair) -> (Vec<u8>, Vec<u8>) {
     (looped, certificate)
 }
 
+/// The records of a loop of several paths and an argument for it.
+pub(crate) fn some_records(random: &mut Random) -> (Vec<u8>, Vec<u8>) {
+    let pair = some_paths(random);
+    some_bytes(random, &pair)
+}
+
 fn judge(random: &mut Random) -> Case {
     let pair = some_paths(random);
     let (loop_bytes, certificate) = some_bytes(random, &pair);
@@ -245,8 +251,7 @@ fn one_path(random: &mut Random) -> (Vec<u8>, Vec<u8>) {
 
 /// A loop and a certificate that are not judged together, either of which is damaged now and then.
 fn mixed_bytes(random: &mut Random) -> (Vec<u8>, Vec<u8>) {
-    let pair = some_paths(random);
-    let (paths, argument) = some_bytes(random, &pair);
+    let (paths, argument) = some_records(random);
     let (looped, certificate) = one_path(random);
     match random.below(9) {
         0..=3 => (paths, certificate),
@@ -269,10 +274,7 @@ fn judge_mixed(random: &mut Random) -> Case {
 fn bound(random: &mut Random) -> Case {
     let (loop_bytes, certificate) = match random.one_in(2) {
         true => mixed_bytes(random),
-        false => {
-            let pair = some_paths(random);
-            some_bytes(random, &pair)
-        }
+        false => some_records(random),
     };
     let n = 1 + random.below(4);
     Case::Bound {
@@ -284,8 +286,7 @@ fn bound(random: &mut Random) -> Case {
 
 /// A sheet whose loop has several paths, or one with an argument among its certificates.
 fn sheet(random: &mut Random) -> Case {
-    let pair = some_paths(random);
-    let (paths, argument) = some_bytes(random, &pair);
+    let (paths, argument) = some_records(random);
     let (looped, certificate) = one_path(random);
     let input = match random.one_in(3) {
         true => [paths, argument].concat(),

@@ -1,4 +1,5 @@
-//! What comes up in cases with loops of several paths and arguments for them (kinds 5 and 6), by name, and how often it must.
+//! What comes up in cases with loops of several paths and arguments for them (kinds 5 and 6), by name, and how often it must;
+//! and where these kinds, and kind 8, are not wanted.
 
 use crate::cases::Case;
 use crate::compare::Told;
@@ -43,7 +44,9 @@ const TOGETHER: [(u64, u64, &str); 6] = [
     (53, 52, "of a later path"),
 ];
 /// Kinds that are not judged together.
-const UNWANTED_PAIRS: [(u64, u64); 5] = [(5, 2), (5, 3), (5, 4), (5, 5), (1, 6)];
+const UNWANTED_PAIRS: [(u64, u64); 6] = [(5, 2), (5, 3), (5, 4), (5, 5), (5, 8), (1, 6)];
+/// Kinds that some call does not want. Bound does not want a settling in its loop's place alone.
+const NOT_WANTED: [u64; 3] = [5, 6, 8];
 const RECORDS: [(u64, &str); 2] = [(1, "loop"), (2, "certificate")];
 
 fn refusal_name(number: u64, record: u64) -> String {
@@ -125,15 +128,15 @@ pub fn quotas(least: u64, least_way: u64) -> Vec<(&'static str, String, u64)> {
     let mut quotas: Vec<(&'static str, String, u64)> = Vec::new();
     quotas.extend(numbers.into_iter().map(|name| ("judge", name, least)));
     quotas.extend(ways.into_iter().map(|name| ("judge", name, least_way)));
-    for (call, kinds) in [
-        ("read_loop", [5, 6]),
-        ("read_certificate", [5, 6]),
-        ("write_record", [5, 6]),
-        ("bound", [5, 6]),
-        ("sheet", [5, 6]),
+    for call in [
+        "read_loop",
+        "read_certificate",
+        "write_record",
+        "bound",
+        "sheet",
     ] {
         let of_call = |kind: &u64| (call, kind_name(*kind), least_way);
-        quotas.extend(kinds.iter().map(of_call));
+        quotas.extend(NOT_WANTED.iter().map(of_call));
     }
     quotas
 }
@@ -192,10 +195,10 @@ fn has_kind_5(bytes: &[u8]) -> bool {
 }
 
 fn named_kinds(kinds: &[u64]) -> Vec<String> {
-    let new = |kind: &&u64| [PATH_LOOP, LEXICOGRAPHIC].contains(kind);
+    let not_wanted = |kind: &&u64| NOT_WANTED.contains(kind);
     kinds
         .iter()
-        .filter(new)
+        .filter(not_wanted)
         .map(|kind| kind_name(*kind))
         .collect()
 }

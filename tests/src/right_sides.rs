@@ -1,4 +1,5 @@
-//! The right sides b, d and s0 of a case: whether one lies near an end of its range, and which one is refused right past it.
+//! The right sides b, d and s0 of a case, and the threshold t, which has their range: whether one lies near an end of it, and
+//! which one is refused right past it.
 
 use crate::cases::Case;
 use crate::compare::Told;
@@ -8,7 +9,7 @@ use crate::oracle::record::{loop_record, stated_length};
 use crate::oracle::Refusal;
 use crate::path_ways;
 
-/// Which of a record's values are right sides: b, or d and then s0.
+/// Which of a record's values are right sides: b, or d and then s0, or t.
 pub fn indices(shape: Shape) -> Vec<usize> {
     let fields = shape.fields();
     let is_right = |&i: &usize| fields[i].range == RIGHT;
@@ -30,6 +31,7 @@ fn of_shape(shape: Shape, value: impl Fn(usize, usize) -> i64) -> Vec<RightSide>
     let right_side = |&i: &usize| RightSide {
         name: match shape.kind {
             Kind::Loop => "b",
+            Kind::Settling => "t",
             _ if Some(i) == last => "s0",
             _ => "d",
         },
@@ -59,6 +61,7 @@ fn of_record(bytes: &[u8], n: usize, m: usize) -> Vec<RightSide> {
             m,
             ms: count(6),
         },
+        Some(kind @ Kind::Settling) => Shape { kind, n, m, ms: 0 },
         _ => return Vec::new(),
     };
     if bytes.len() != 4 + shape.length() || stated_length(bytes) != shape.length() {

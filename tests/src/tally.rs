@@ -7,7 +7,11 @@
 //! Of loops with several paths: 5 % of all cases are accepted, a fifth of these with a path whose component is 2 or more; a
 //! fifth of those judged have three paths or more and two components or more; each refusal number of either record, and each
 //! condition that fails, 100 times; and 50 times each way in which it does, each count of paths and components, and each call
-//! or pair of records in which kinds 5 and 6 are not wanted.
+//! or pair of records in which kinds 5, 6 and 8 are not wanted.
+//!
+//! Of settlings: 5 % of all cases are accepted; in judging and in bound each refusal number, each condition that fails and each
+//! bound 100 times, and a loop that has an exclusion too; and 50 times each way in which a condition fails, each range one past
+//! its ends, and the threshold at either end of its range.
 
 use crate::cases::Case;
 use crate::compare::{Answer, Lent, Told};
@@ -18,6 +22,7 @@ use crate::oracle::layout::RIGHT;
 use crate::oracle::Refusal;
 use crate::path_ways;
 use crate::right_sides;
+use crate::settling_ways;
 use std::collections::BTreeMap;
 
 /// The fewest times that anything must come up.
@@ -37,6 +42,8 @@ const ENDS: [i64; 2] = [RIGHT.low, RIGHT.high];
 const LEAST_LEXICOGRAPHIC: u64 = 5;
 const LEAST_WIDE: u64 = 20;
 const LEAST_DEEP: u64 = 20;
+/// The fewest accepted settlings in a hundred of all cases.
+const LEAST_SETTLING: u64 = 5;
 
 /// What must come up, under the names that `Tally::count` gives.
 const QUOTAS: [(&str, &[&str]); 6] = [
@@ -207,15 +214,17 @@ fn right_side_quotas() -> Vec<(&'static str, String, u64)> {
         ("judge", "exclusion fractions"),
         ("judge", "lasso"),
         ("judge", "lexicographic"),
+        ("judge", settling_ways::ACCEPTED),
         ("bound", "ranking, bound above 1"),
         ("bound", "lasso, bound above 1"),
+        ("bound", settling_ways::BOUNDS[2]),
     ];
     let refused = [
         ("read_loop", &["b"][..]),
         ("read_certificate", &["d", "s0"]),
         ("write_record", &["b", "d", "s0"]),
-        ("judge", &["b", "d", "s0"]),
-        ("bound", &["b", "d", "s0"]),
+        ("judge", &["b", "d", "s0", "t"]),
+        ("bound", &["b", "d", "s0", "t"]),
     ];
     let mut quotas = Vec::new();
     for (call, name) in accepted {
@@ -282,6 +291,9 @@ impl Tally {
         for way in path_ways::ways_of(case, &answer.told) {
             self.add(call, way);
         }
+        for way in settling_ways::ways_of(case, &answer.told) {
+            self.add(call, way);
+        }
         for line in lines {
             self.add(call, line);
         }
@@ -304,12 +316,15 @@ impl Tally {
         }
     }
 
-    /// The shares of loops with several paths: what, how often, of how many, and the least in a hundred.
-    fn path_shares(&self) -> [(&'static str, u64, u64, u64); 3] {
-        let judged = |name: &str| {
-            let name = ("judge", name.to_string());
+    /// The shares of loops with several paths and of settlings: what, how often, of how many, and the least in a hundred.
+    fn shares(&self) -> [(&'static str, u64, u64, u64); 4] {
+        let told = |call: &'static str, name: &str| {
+            let name = (call, name.to_string());
             self.counts.get(&name).copied().unwrap_or(0)
         };
+        let judged = |name: &str| told("judge", name);
+        let bounded = settling_ways::BOUNDS.iter().map(|name| told("bound", name));
+        let settling = judged(settling_ways::ACCEPTED) + bounded.sum::<u64>();
         let accepted = judged(path_ways::ACCEPTED);
         [
             (
@@ -330,6 +345,7 @@ impl Tally {
                 accepted,
                 LEAST_DEEP,
             ),
+            ("accepted settling", settling, self.cases, LEAST_SETTLING),
         ]
     }
 
@@ -353,7 +369,7 @@ impl Tally {
             self.accepted_near_ends,
             self.accepted,
         );
-        for (what, count, all, _) in self.path_shares() {
+        for (what, count, all, _) in self.shares() {
             print(what, count, all);
         }
         print("accepted", self.accepted, self.cases);
@@ -391,13 +407,16 @@ impl Tally {
         for (call, name, least) in path_ways::quotas(LEAST_FAILING, LEAST_WAY) {
             ask(call, name, least);
         }
+        for (call, name, least) in settling_ways::quotas(LEAST_FAILING, LEAST_WAY) {
+            ask(call, name, least);
+        }
         let mut share = |what: &str, count: u64, all: u64, least: u64| {
             if count * 100 < all * least {
                 unmet.push(format!("{what}: less than {least} %"));
             }
         };
         share("accepted", self.accepted, self.cases, LEAST_ACCEPTED);
-        for (what, count, all, least) in self.path_shares() {
+        for (what, count, all, least) in self.shares() {
             share(what, count, all, least);
         }
         for (count, end) in self.near_ends.into_iter().zip(ENDS) {
@@ -420,7 +439,7 @@ fn call_name(case: &Case) -> &'static str {
         Case::ReadCertificate { .. } => "read_certificate",
         Case::WriteRecord { .. } => "write_record",
         Case::Sheet { .. } => "sheet",
-        Case::Judge { .. } => "judge",
+        Case::Judge { .. } | Case::JudgeBoth { .. } => "judge",
         Case::Bound { .. } => "bound",
     }
 }
@@ -436,7 +455,9 @@ fn answer_name(case: &Case, told: &Told) -> String {
     match (told, case) {
         (Told::Reading(reading), _) => format!("kind {}", reading.kind),
         (_, Case::WriteRecord { kind, .. }) => format!("kind {kind}"),
-        (Told::Verdict(verdict), _) => outcome_name(verdict.outcome, verdict.grade),
+        (Told::Verdict(verdict) | Told::Verdicts([verdict, _]), _) => {
+            outcome_name(verdict.outcome, verdict.grade)
+        }
         (Told::Bounded(bounded), _) => {
             let name = outcome_name(bounded.verdict.outcome, bounded.verdict.grade);
             match bounded.bound {
@@ -448,7 +469,7 @@ fn answer_name(case: &Case, told: &Told) -> String {
     }
 }
 
-/// The ways in which a case's condition fails: by its place, and by what fails with it.
+/// The ways in which a case's condition fails: by its place, and by what fails with it. Those of settlings are counted apart.
 fn ways_of(case: &Case, told: &Told) -> Vec<String> {
     let records = match case {
         Case::Judge {
@@ -460,7 +481,9 @@ fn ways_of(case: &Case, told: &Told) -> Vec<String> {
             loop_bytes,
             certificate,
             ..
-        } if told.number_and_record().0 > 20 => judging::failing(loop_bytes, certificate),
+        } if told.number_and_record().0 > 20 && !settling_ways::has_kind_8(certificate) => {
+            judging::failing(loop_bytes, certificate)
+        }
         _ => None,
     };
     let Some((n, m, failing)) = records else {
@@ -492,6 +515,7 @@ fn outcome_name(outcome: u64, grade: u64) -> String {
         (2, _) => "ranking",
         (4, _) => "lasso",
         (6, _) => "lexicographic",
+        (8, _) => settling_ways::ACCEPTED,
         (3, 1) => "exclusion whole",
         _ => "exclusion fractions",
     };

@@ -52,7 +52,7 @@ pub enum Fails {
 #[derive(Clone, Copy, Debug, PartialEq, Eq, Hash)]
 pub struct Refusal {
     /// The number of the refusal: 1 to 12 without 8, which is no longer given, 14, or that of a condition that fails, 21 to
-    /// 24, 31, 32, 41 to 46, 51 to 53.
+    /// 24, 31, 32, 41 to 46, 51 to 53, 61 to 63.
     pub number: u64,
     /// Its place; [`Refusal::place_meaning`] says of what.
     pub place: u64,
@@ -79,9 +79,9 @@ impl Refusal {
     /// Where a condition fails, if that is what the refusal tells.
     pub fn fails(&self) -> Option<Fails> {
         match self.number {
-            21..=23 | 41 | 42 | 44 | 45 => Some(Fails::InColumn(self.place)),
+            21..=23 | 41 | 42 | 44 | 45 | 61 | 62 => Some(Fails::InColumn(self.place)),
             31 | 32 => Some(Fails::AtRow(self.place)),
-            24 | 43 | 46 => Some(Fails::OnRightSides),
+            24 | 43 | 46 | 63 => Some(Fails::OnRightSides),
             51..=53 => Some(Fails::OnPath(self.place)),
             _ => None,
         }
@@ -135,6 +135,9 @@ impl Refusal {
                 "the unaffecting rows do not sum to -r·x + r·x' of an earlier component, or their right sides to more than 0",
                 PATH,
             ),
+            61 => ("EA is not k g", COLUMN),
+            62 => ("EA' is not -k g", COLUMN),
+            63 => ("Eb is above -k", "always 0"),
             _ => ("a number that this version doesn't know", "unknown"),
         }
     }
@@ -196,6 +199,9 @@ pub enum Outcome {
     /// The loop ends through whichever of its paths each step goes: no run goes on for ever. How many steps one takes is not
     /// told.
     Lexicographic,
+    /// No run goes on for ever: g·x rises in every step, and once it has reached t, r·x is at least `start` before each step,
+    /// which takes at least `fall` from it. No linear rank need hold before.
+    Settling { start: i64, fall: i64 },
 }
 
 impl fmt::Display for Outcome {
@@ -205,6 +211,7 @@ impl fmt::Display for Outcome {
             Outcome::Exclusion { grade } => write!(out, "excluded {grade}"),
             Outcome::Lasso { start, fall } => write!(out, "lasso from {start} down {fall}"),
             Outcome::Lexicographic => out.write_str("lexicographic"),
+            Outcome::Settling { start, fall } => write!(out, "settling from {start} down {fall}"),
         }
     }
 }
@@ -242,20 +249,28 @@ impl fmt::Display for Verdict {
     }
 }
 
-/// An accepted ranking or lasso with the bound at a state.
+/// An accepted ranking, lasso or settling with the bound at a state.
 #[derive(Clone, Copy, Debug, PartialEq, Eq, Hash)]
 pub struct Bounded {
     /// What judging says of the certificate.
     pub outcome: Outcome,
     /// No run from the state takes more steps than this; for a lasso, no run whose first state follows a step of the
-    /// stem.
+    /// stem; for a settling, no run takes more steps than this from states where g·x is below t.
     pub bound: u64,
 }
 
 impl fmt::Display for Bounded {
     fn fmt(&self, out: &mut fmt::Formatter<'_>) -> fmt::Result {
         let steps = if self.bound == 1 { "step" } else { "steps" };
-        write!(out, "{}, at most {} {steps}", self.outcome, self.bound)
+        let of_which = match self.outcome {
+            Outcome::Settling { .. } => " before it settles",
+            _ => "",
+        };
+        write!(
+            out,
+            "{}, at most {} {steps}{of_which}",
+            self.outcome, self.bound
+        )
     }
 }
 
@@ -286,12 +301,13 @@ fn refusal(number: u64, place: u64, record: u64) -> Option<Refusal> {
     })
 }
 
-/// The outcome of an accepted answer. The archive gives no outcome but 2, 3, 4 and 6 there, and no grade but 1 and 2.
+/// The outcome of an accepted answer. The archive gives no outcome but 2, 3, 4, 6 and 8 there, and no grade but 1 and 2.
 fn outcome(outcome: u64, start: i64, fall: i64, grade: u64) -> Outcome {
     match (outcome, grade) {
         (2, _) => Outcome::Ranking { start, fall },
         (4, _) => Outcome::Lasso { start, fall },
         (6, _) => Outcome::Lexicographic,
+        (8, _) => Outcome::Settling { start, fall },
         (3, 1) => Outcome::Exclusion {
             grade: Grade::Whole,
         },

@@ -132,8 +132,8 @@ pub fn sheet_text(input: &[u8]) -> String {
     String::from_utf8(text).expect("a sheet is plain ASCII")
 }
 
-/// Judges a certificate for a loop. On acceptance of a ranking or a lasso the first n numbers of `rank` are r; an
-/// exclusion touches none. A loop of several paths (kind 5) and a lexicographic argument (kind 6) are judged only together
+/// Judges a certificate for a loop. On acceptance of a ranking, a lasso or a settling (kind 8) the first n numbers of `rank`
+/// are r; an exclusion touches none. A loop of several paths (kind 5) and a lexicographic argument (kind 6) are judged only together
 /// and touch none.
 ///
 /// ```
@@ -168,8 +168,37 @@ pub fn judge(loop_record: &[u8], certificate: &[u8], rank: &mut [i64]) -> Verdic
     .into()
 }
 
-/// Judges a ranking or a lasso and tells how many steps a run from `state` can take at most. An exclusion is refused
-/// with 4, and so is a loop of several paths or an argument for one.
+/// Judges a ranking or a lasso and tells how many steps a run from `state` can take at most; of a settling, how many it can
+/// take before g·x has reached t. An exclusion is refused with 4, and so is a loop of several paths or an argument for one.
+///
+/// ```
+/// use cushiedoo::{bound, judge, write_record, Outcome};
+///
+/// // While x >= 0: x' = x + y and y' = y - 1. x climbs while y is above 0.
+/// let rows = [
+///     -1, 0, 0, 0, 0, -1, -1, 1, 0, 0, 1, 1, -1, 0, 0, 0, -1, 0, 1, -1, 0, 1, 0, -1, 1,
+/// ];
+/// let mut looped = [0; 70];
+/// write_record(1, 2, 5, &rows, &mut looped)?;
+///
+/// // -y rises by 1 in every step; once it is 1 or more, x falls by 1 at least.
+/// let settling = [
+///     46, 0, 0, 0, 8, 0, // L, kind
+///     0, 0, 255, 255, 1, 0, 0, 0, 1, 0, // g = (0, -1), t = 1, k = 1
+///     0, 0, 0, 0, 0, 0, 1, 0, 0, 0, // E = (0, 0, 0, 1, 0)
+///     1, 0, 0, 0, 0, 0, 0, 0, 0, 0, 0, 0, // Y = (1, 0, 0, 0, 0, 0)
+///     0, 0, 1, 0, 0, 0, 0, 0, 0, 0, 1, 0, // Z = (0, 1, 0, 0, 0, 1)
+/// ];
+/// let mut rank = [0; 2];
+/// let outcome = judge(&looped, &settling, &mut rank).outcome();
+/// assert_eq!(outcome, Some(Outcome::Settling { start: 0, fall: 1 }));
+/// assert_eq!(rank, [1, 0]);
+///
+/// // From (0, 5) at most 6 steps are taken before y is -1.
+/// let bounded = bound(&looped, &settling, &[0, 5])?;
+/// assert_eq!(bounded.to_string(), "settling from 0 down 1, at most 6 steps before it settles");
+/// # Ok::<(), cushiedoo::Refusal>(())
+/// ```
 pub fn bound(loop_record: &[u8], certificate: &[u8], state: &[i64]) -> Result<Bounded, Refusal> {
     // SAFETY: the slices are valid for their lengths.
     unsafe {

@@ -147,7 +147,16 @@ fn every_number_has_words() {
         refusal.place_meaning() != "unknown"
     };
     let numbers: Vec<u64> = (0..100).filter(|&number| known(number)).collect();
-    let given = [1..=7, 9..=12, 14..=14, 21..=24, 31..=32, 41..=46, 51..=53];
+    let given = [
+        1..=7,
+        9..=12,
+        14..=14,
+        21..=24,
+        31..=32,
+        41..=46,
+        51..=53,
+        61..=63,
+    ];
     let given: Vec<u64> = given.into_iter().flatten().collect();
     assert_eq!(numbers, given);
 }
@@ -254,6 +263,98 @@ fn several_paths_and_arguments_for_them_go_only_together() {
     assert_eq!(sheet_text(&two_counters()), "loop refused 4 4\n");
     let text = sheet_text(&[loop_p(), argument].concat());
     assert_eq!(text, "loop 2 3\n1 refused 4 4\n");
+}
+
+/// x' = x + y and y' = y - 1 while x >= 0.
+fn curve() -> Vec<u8> {
+    let rows = [
+        -1, 0, 0, 0, 0, -1, -1, 1, 0, 0, 1, 1, -1, 0, 0, 0, -1, 0, 1, -1, 0, 1, 0, -1, 1,
+    ];
+    record(1, 2, 5, &rows)
+}
+
+/// g = (0, -1), the threshold and the scale; E = (0, 0, 0, e, 0); Y and Z lean on the first two rows and, Z, on the added one.
+fn curve_settles(t: i32, k: u8, e: u8) -> Vec<u8> {
+    let mut bytes = vec![46, 0, 0, 0, 8, 0, 0, 0, 255, 255];
+    bytes.extend(t.to_le_bytes());
+    bytes.extend([k, 0]);
+    let multipliers = [0, 0, 0, e, 0, 1, 0, 0, 0, 0, 0, 0, 1, 0, 0, 0, 1];
+    bytes.extend(multipliers.into_iter().flat_map(|weight| [weight, 0]));
+    bytes
+}
+
+#[test]
+fn a_curve_settles_before_it_falls() {
+    let mut rank = [9; 3];
+    let verdict = judge(&curve(), &curve_settles(1, 1, 1), &mut rank);
+    let outcome = Outcome::Settling { start: 0, fall: 1 };
+    assert_eq!((verdict, rank), (Verdict::Accepted(outcome), [1, 0, 9]));
+    assert_eq!(verdict.to_string(), "accepted: settling from 0 down 1");
+    for (state, steps) in [([0, 5], 6), ([9, 0], 1), ([9, -1], 0), ([3, -2], 0)] {
+        let bounded = bound(&curve(), &curve_settles(1, 1, 1), &state);
+        assert_eq!(bounded.map(|bounded| bounded.bound), Ok(steps));
+    }
+    let one = bound(&curve(), &curve_settles(1, 1, 1), &[9, 0]).expect("it is accepted");
+    assert_eq!(
+        one.to_string(),
+        "settling from 0 down 1, at most 1 step before it settles"
+    );
+    let exclusion = record(3, 2, 5, &[1, -1, -1, 0, -1, 0, -1]);
+    assert_eq!(
+        judge(&curve(), &exclusion, &mut []).to_string(),
+        "accepted: excluded whole"
+    );
+}
+
+#[test]
+fn a_settling_that_does_not_rise_is_told_in_words() {
+    let now = failing(&curve(), &curve_settles(1, 2, 1));
+    assert_eq!(now.fails(), Some(Fails::InColumn(1)));
+    assert_eq!(
+        now.to_string(),
+        "refused 61, place 1 (column, from 0), in the certificate: EA is not k g in column 1"
+    );
+    let mut looped = curve();
+    looped[52] = 2;
+    assert_eq!(
+        failing(&looped, &curve_settles(1, 1, 1)).to_string(),
+        "refused 62, place 1 (column, from 0), in the certificate: EA' is not -k g in column 1"
+    );
+    let mut looped = curve();
+    looped[54..58].fill(0);
+    let right = failing(&looped, &curve_settles(1, 1, 1));
+    assert_eq!(right.fails(), Some(Fails::OnRightSides));
+    assert_eq!(
+        right.to_string(),
+        "refused 63, place 0 (always 0), in the certificate: Eb is above -k"
+    );
+    assert_eq!(failing(&curve(), &curve_settles(0, 1, 1)).number, 24);
+    let short = judge(&curve(), &curve_settles(0, 1, 1), &mut [0]);
+    assert_eq!(
+        short.into_result().map_err(|refusal| refusal.number),
+        Err(7)
+    );
+}
+
+#[test]
+fn a_settling_goes_through_judging_and_bound_alone() {
+    let settling = curve_settles(1, 1, 1);
+    let unwanted = |record| Refusal {
+        number: 4,
+        place: 4,
+        record,
+    };
+    assert_eq!(
+        failing(&two_counters(), &settling),
+        unwanted(Record::Certificate)
+    );
+    let looped = unwanted(Record::Loop);
+    assert_eq!(bound(&two_counters(), &settling, &[1, 1]), Err(looped));
+    let neither = unwanted(Record::Neither);
+    assert_eq!(read_certificate(&settling, 2, 5, &mut []), Err(neither));
+    assert_eq!(write_record(8, 2, 5, &[], &mut []), Err(neither));
+    let text = sheet_text(&[curve(), settling].concat());
+    assert_eq!(text, "loop 2 5\n1 refused 4 4\n");
 }
 
 #[test]

@@ -1,2 +1,3 @@
+pub mod SettlingWays
 pub mod KindWays
 pub mod OneAnswer

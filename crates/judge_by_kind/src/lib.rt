@@ -1,11 +1,15 @@
-// The judge: whether a certificate's bytes prove what they claim of a loop's bytes, by the loop's kind. Every input has an answer; a refusal
-// changes nothing that was lent.
+// The judge: whether a certificate's bytes prove what they claim of a loop's bytes, by the records' kinds. Every input has an answer; a
+// refusal changes nothing that was lent.
 ghost use mathlib.Core.Path.{_≡_};
 ghost use mathlib.Core.Bool.{_&&_};
 ghost use lib.Dec.{leb};
 ghost use lib.ListN.{length};
-ghost use Rattle.verdict_paths.specs.JudgingByLoop.{of-paths, judged, rank-judged};
+ghost use Rattle.verdict_paths.specs.JudgingByLoop.{of-paths};
 ghost use Rattle.verdict_paths.specs.PathJudging.{path-judges};
+ghost use Rattle.verdict_settling.specs.AnswersByKind.{judged-by-kind, rank-by-kind};
+ghost use Rattle.judge.specs.SoundPairs.{LoopSound};
+ghost use Rattle.judge_by_kind.specs.SettlingShown.{settling-shown, SettlingJudged};
+use judge_ranking::Ranked;
 use verdict::Outcome;
 use verdict::Verdict;
 
@@ -38,13 +42,61 @@ fn is_of_paths(loopbytes: &[u8]) -> bool
     endian::u16_at(loopbytes, 4) == 5
 }
 
+// The verdict of a settling, from what its conditions tell.
+fn settling_verdict(shown: Ranked) -> Verdict
+    ensures { λ r. ⌜ r ≡ settling-shown shown ⌝ }
+{
+    if shown.number != 0 {
+        return judge::refused(2, shown.number, shown.place);
+    }
+    judge::accepted(Outcome::Settling {
+        start: shown.start,
+        fall: shown.fall,
+    })
+}
+
+// A certificate of kind 8, for a loop record that has been checked.
+fn settling_sound(
+    loopbytes: &[u8],
+    n: usize,
+    m: usize,
+    certificate: &[u8],
+    rank: &mut [i64],
+) -> Verdict
+    requires { ⌜ LoopSound (now loopbytes) n m ⌝ }
+    ensures { λ r. ⌜ SettlingJudged (now (loopbytes .entry)) (now (certificate .entry)) (now (rank .entry)) r (now (rank .exit)) ⌝ }
+{
+    let fault = record_settling::check_settling(certificate, n, m);
+    if fault.number != 0 {
+        return judge::refused(2, fault.number, fault.place);
+    }
+    if rank.len() < n {
+        return judge::refused(0, 7, n);
+    }
+    settling_verdict(judge_settling::settling(loopbytes, judge::FIRST_ROW, n, m, certificate, rank))
+}
+
+// A certificate of kind 8. It has a rank.
+fn judge_settling(loopbytes: &[u8], certificate: &[u8], rank: &mut [i64]) -> Verdict
+    ensures { λ r. ⌜ SettlingJudged (now (loopbytes .entry)) (now (certificate .entry)) (now (rank .entry)) r (now (rank .exit)) ⌝ }
+{
+    let said = record_check::check_loop(loopbytes);
+    if said.number != 0 {
+        return judge::refused(1, said.number, said.place);
+    }
+    settling_sound(loopbytes, said.n, said.m, certificate, rank)
+}
+
 // Judges a certificate's bytes for a loop's bytes.
 pub fn judge(loopbytes: &[u8], certificate: &[u8], rank: &mut [i64]) -> Verdict
-    ensures { λ r. ⌜ r ≡ judged (now (loopbytes .entry)) (now (certificate .entry)) (now (rank .entry)) ⌝ }
-    ensures { λ _. ⌜ now (rank .exit) ≡ rank-judged (now (loopbytes .entry)) (now (certificate .entry)) (now (rank .entry)) ⌝ }
+    ensures { λ r. ⌜ r ≡ judged-by-kind (now (loopbytes .entry)) (now (certificate .entry)) (now (rank .entry)) ⌝ }
+    ensures { λ _. ⌜ now (rank .exit) ≡ rank-by-kind (now (loopbytes .entry)) (now (certificate .entry)) (now (rank .entry)) ⌝ }
 {
     if is_of_paths(loopbytes) {
         return judge_paths(loopbytes, certificate);
+    }
+    if judge_settling::is_settling(certificate) {
+        return judge_settling(loopbytes, certificate, rank);
     }
     judge::judge(loopbytes, certificate, rank)
 }

@@ -1,9 +1,9 @@
-// What the conditions of every kind share (01, "Conditions"): the loop that bytes hold, the totals as sums of the theory, a product, and
-// where a condition fails first.
+// What the conditions of every kind share (01, "Conditions"): the loop that bytes hold, the totals as sums of the theory, a product, a
+// negation, and where a condition fails first.
 ghost use mathlib.Core.Path.{_≡_};
 ghost use mathlib.Core.Bool.{Bool};
 ghost use Prim.Native.Nat.{ℕ, _+_, _≤_, _<_};
-ghost use lib.IntN.{pos, natAbs, _*ℤ_};
+ghost use lib.IntN.{pos, natAbs, negℤ, _*ℤ_};
 ghost use Rattle.refusal.specs.Places.{before-failing};
 
 // A count or multiplier times a right side or an entry.
@@ -12,6 +12,14 @@ pub fn times(k: usize, z: i64) -> i64
     ensures { λ r. ⌜ (r ≡ pos k *ℤ z) × (natAbs r ≤ 140735340871680) ⌝ }
 {
     (k as i64) * z
+}
+
+// -z
+pub fn minus(z: i64) -> i64
+    requires { ⌜ natAbs z ≤ 2147483648 ⌝ }
+    ensures { λ r. ⌜ (r ≡ negℤ z) × (natAbs r ≤ 2147483648) ⌝ }
+{
+    -z
 }
 
 // One place more for a condition that is asked at each, while a loop goes on to look for an earlier one: how many places come before

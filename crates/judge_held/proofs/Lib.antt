@@ -1,1 +1,2 @@
 pub mod HeldRuns
+pub mod NumbersHeld

@@ -34,20 +34,13 @@ use Rattle.theory_paths.specs.PathConditions.{every, weighs, path-told, lexicog
 use Rattle.theory_paths.proofs.PathLaws.{every-same, path-51, path-52, path-53, path-done, paths-done, paths-refused}
 use Rattle.judge_sums.specs.Lists.{multipliersFrom, rightsFrom, rowsFrom}
 use Rattle.judge_sums.specs.Places.{multiplierAt, rightAt}
-use Rattle.judge_held.proofs.HeldRuns.{numberAt, rows-held, last-held}
+use Rattle.judge_held.proofs.HeldRuns.{rows-held}
+use Rattle.judge_held.proofs.NumbersHeld.{run-is, multipliers-are, start-is}
 use Rattle.verdict.specs.Contents.{rows-from}
 use Rattle.verdict_paths.specs.PathContents.{rows-at, path-in, branches-in, component-held, list-held, part-held, lexicographic-in}
 use Rattle.judge_paths.specs.PathByPlaces.{weighted-by, bounded-by, falling-by, staying-by, path-number, PathIn}
 
 -- ---- numbers and rows at a place
-
-run-is : (f : Field) (k : ℕ) (bytes : List ℕ) (place : ℕ) → numbers-at f k bytes place ≡ tabulate k (λ i. numberAt f bytes (place + width (f .form) * i))
-unfolding numbers-at
-run-is f k bytes place = sym (take-all k (values (replicate k f) (drop place bytes)) (omega (arith, length-values (replicate k f) (drop place bytes), length-replicate k f))) ∙ last-held f k bytes place
-
-multipliers-are : (k : ℕ) (bytes : List ℕ) (place : ℕ) → numbers-at multiplier k bytes place ≡ multipliersFrom bytes place k
-unfolding multipliersFrom multiplier width number littleAt multiplierAt
-multipliers-are k bytes place = run-is multiplier k bytes place
 
 r-is : (k : ℕ) (bytes : List ℕ) (place : ℕ) → numbers-at direction k bytes place ≡ rightsFrom bytes place k
 unfolding rightsFrom direction width number littleAt rightAt
@@ -56,10 +49,6 @@ r-is k bytes place = run-is direction k bytes place
 rows-are : (n m : ℕ) (bytes : List ℕ) (place : ℕ) → rows-at n m bytes place ≡ rowsFrom bytes n place m
 unfolding rows-at
 rows-are n m bytes place = rw (← append-nil (rowsOf n m)) (rows-held n m [] bytes place .0)
-
-start-is : (bytes : List ℕ) (place : ℕ) → number-at right-side bytes place ≡ rightAt bytes place
-unfolding number-at right-side width number littleAt rightAt
-start-is bytes place = refl
 
 fall-is : (bytes : List ℕ) (place : ℕ) → number-at fall bytes place ≡ rightAt bytes place
 unfolding number-at fall width number littleAt rightAt

@@ -2,7 +2,6 @@
 // 51, 52 or 53, each a law of weighted rows over the path's own rows.
 ghost use Prim.Native.Nat.{_+_, _*_, _≤_, _<_};
 ghost use mathlib.Core.Path.{_≡_};
-ghost use lib.IntN.{natAbs, negℤ};
 ghost use lib.ListN.{length};
 ghost use Rattle.judge_sums.specs.Places.{AllModest};
 ghost use Rattle.judge_sums.specs.Running.{Modest};
@@ -15,14 +14,6 @@ ghost use Rattle.theory_paths.specs.PathConditions.{every, weighs as weighs-so,
 ghost use Rattle.verdict_paths.specs.PathContents.{branches-in, lexicographic-in};
 ghost use Rattle.judge_paths.specs.PathByPlaces.{weighted-by, column-held, bounded-by, falling-by, staying-by, path-number, WeightsIn, PathIn};
 use refusal::Fault;
-
-// -z
-fn minus(z: i64) -> i64
-    requires { ⌜ natAbs z ≤ 2147483648 ⌝ }
-    ensures { λ r. ⌜ (r ≡ negℤ z) × (natAbs r ≤ 2147483648) ⌝ }
-{
-    -z
-}
 
 // Whether column j's totals, out of lifted ones, are -r and next times r.
 fn column_holds(
@@ -39,7 +30,7 @@ fn column_holds(
     ensures { λ h. ⌜ h ≡ column-held (now (sums .entry)) lift n (now (certificate .entry)) r next j ⌝ }
 {
     let entry = endian::i32_at(certificate, r + 4 * j);
-    let over = judge_ranking::unlifted(sums, j, lift) == minus(entry);
+    let over = judge_ranking::unlifted(sums, j, lift) == judge_conditions::minus(entry);
     let then = judge_ranking::unlifted(sums, n + j, lift) == judge_conditions::times(next, entry);
     over & then
 }
@@ -104,7 +95,17 @@ fn is_bounded(
     ensures { λ h. ⌜ h ≡ weighs-so n (bounded-by (now (rows .entry)) row n m (now (certificate .entry)) place own) ⌝ }
 {
     let start = endian::i32_at(certificate, own + 4 * n);
-    weighs(rows, row, n, m, certificate, place, own, 0, minus(start))
+    weighs(
+        rows,
+        row,
+        n,
+        m,
+        certificate,
+        place,
+        own,
+        0,
+        judge_conditions::minus(start),
+    )
 }
 
 // Ranking: it falls by δ or more.
@@ -121,7 +122,17 @@ fn does_fall(
     ensures { λ h. ⌜ h ≡ weighs-so n (falling-by (now (rows .entry)) row n m (now (certificate .entry)) place own) ⌝ }
 {
     let fall = endian::i32_at(certificate, own + 4 * n + 4);
-    weighs(rows, row, n, m, certificate, place, own, 1, minus(fall))
+    weighs(
+        rows,
+        row,
+        n,
+        m,
+        certificate,
+        place,
+        own,
+        1,
+        judge_conditions::minus(fall),
+    )
 }
 
 // Unaffecting, for the earlier component i: it does not rise. The lists of the earlier components lie from `place` on.

@@ -215,7 +215,7 @@ fn scale_fault(bytes: &[u8], place: usize) -> usize
 
 // ---- parts of a body
 
-fn linear_fault(bytes: &[u8], place: usize, count: usize) -> usize
+pub fn linear_fault(bytes: &[u8], place: usize, count: usize) -> usize
     requires { ⌜ place + (2 * count + 4) ≤ length (now bytes) ⌝ }
     ensures { λ r. ⌜ r ≡ fault (linear count) (now (bytes .entry)) place ⌝ }
 {
@@ -227,7 +227,7 @@ fn linear_fault(bytes: &[u8], place: usize, count: usize) -> usize
     right_side_fault(bytes, right)
 }
 
-fn weights_fault(bytes: &[u8], place: usize, count: usize) -> usize
+pub fn weights_fault(bytes: &[u8], place: usize, count: usize) -> usize
     requires { ⌜ place + (2 + 2 * count) ≤ length (now bytes) ⌝ }
     ensures { λ r. ⌜ r ≡ fault (weights count) (now (bytes .entry)) place ⌝ }
 {

@@ -31,7 +31,7 @@ unfolding layout
 ranking-is c = rw (replicate-append-replicate, twice (c .m))
 
 -- three runs of one field are one
-thrice : (a b c all : ℕ) (f : Field) → a + (b + c) ≡ all → replicate a f ++ (replicate b f ++ replicate c f) ≡ replicate all f
+pub thrice : (a b c all : ℕ) (f : Field) → a + (b + c) ≡ all → replicate a f ++ (replicate b f ++ replicate c f) ≡ replicate all f
 thrice a b c all f h = ap (λ fs. replicate a f ++ fs) (replicate-append-replicate b c f) ∙ replicate-append-replicate a (b + c) f ∙ ap (λ k. replicate k f) h
 
 pub exclusion-is : (c : Counts) → layout exclusion c ≡ (scale ∷ []) ++ replicate (3 * c .n) direction

@@ -1,6 +1,6 @@
--- 02, Q-3: "A certificate of kind 6 holds a count of 1 to 8 components, a component number (u16, from 0) for each path, each component's r, δ0,
--- δ (i32, ranged as U, as s0, and 1 to 1,000,000), and path by path multipliers for the bounded, ranking and unaffecting conditions of
--- document 004, the last with one list per earlier component". It is read with the n, the count of paths and the m's of its loop.
+-- 02, Q-3: "A certificate of kind 6 holds a count of 1 to 8 components, a component number (u16, from 0) for each path, each component's
+-- r, δ0, δ (i32, ranged as U, as s0, and 1 to 1,000,000), and path by path multipliers for the bounded, ranking and unaffecting conditions
+-- of document 004, the last with one list per earlier component". It is read with the n, the count of paths and the m's of its loop.
 use Prim.Native.Nat.{ℕ, zero, suc, _+_, _*_}
 use mathlib.Core.List.{List, [], _∷_, _++_}
 use lib.Dec.{eqb, ltb}

@@ -1,5 +1,5 @@
--- 02, Q-3: "A new loop kind 5 holds n, a count of 1 to 8 paths, the m of each, then their rows." So after the kind: n at byte 6, the count of
--- paths at 8, the m of path j at 10 + 2j, and the rows, path after path.
+-- 02, Q-3: "A new loop kind 5 holds n, a count of 1 to 8 paths, the m of each, then their rows." So after the kind: n at byte 6, the count
+-- of paths at 8, the m of path j at 10 + 2j, and the rows, path after path.
 use Prim.Native.Nat.{ℕ, _+_, _*_}
 use mathlib.Core.List.{List, [], _∷_, _++_}
 use lib.ListN.{replicate}

@@ -1,5 +1,5 @@
--- 02, Q-8: kind 8, "its parts in this order: g (as s), a threshold t (as s0), a scale k, m multipliers E, then Y and Z, m + 1 each." It is read
--- with the n and m of its loop and has no counts of its own.
+-- 02, Q-8: kind 8, "its parts in this order: g (as s), a threshold t (as s0), a scale k, m multipliers E, then Y and Z, m + 1 each." It is
+-- read with the n and m of its loop and has no counts of its own.
 use Prim.Native.Nat.{ℕ, suc, _+_, _*_}
 use mathlib.Core.List.{List, [], _∷_, _++_}
 use lib.ListN.{replicate}

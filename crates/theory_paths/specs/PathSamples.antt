@@ -1,5 +1,5 @@
--- Loops of several paths, and arguments for them, as lists of rows: two counters, which ends though its steps have no bound; ping-pong, which
--- runs for ever though each of its paths has a ranking; and loops that run for ever, each with an argument that lacks one thing only.
+-- Loops of several paths, and arguments for them, as lists of rows: two counters, which ends though its steps have no bound; ping-pong,
+-- which runs for ever though each of its paths has a ranking; and loops that run for ever, each with an argument that lacks one thing only.
 use Prim.Native.Nat.{ℕ, zero, suc}
 use mathlib.Core.List.{List, [], _∷_, map}
 use lib.IntN.{ℤ, pos, negsuc, negℤ}
@@ -130,7 +130,8 @@ abbrev pub signed-part : List ℤ → List ℤ → PathPart
 signed-part bounded ranking = record { component = 0; bounded = bounded; ranking = ranking; unaffecting = [] }
 
 unfoldable pub bounded-below-nought : Lexicographic
-bounded-below-nought = argument (component-of (pos 1 ∷ []) (pos 0) (pos 1) ∷ []) (signed-part (negsuc 0 ∷ pos 0 ∷ []) (pos 0 ∷ pos 1 ∷ []) ∷ [])
+bounded-below-nought =
+    argument (component-of (pos 1 ∷ []) (pos 0) (pos 1) ∷ []) (signed-part (negsuc 0 ∷ pos 0 ∷ []) (pos 0 ∷ pos 1 ∷ []) ∷ [])
 
 -- 0, -1, -2, ..
 abbrev pub descent : ℕ → List ℤ
@@ -141,7 +142,8 @@ unfoldable pub level : Branches
 level = alone 1 (row (negsuc 0 ∷ []) (pos 0 ∷ []) (pos 0) ∷ row (pos 1 ∷ []) (negsuc 0 ∷ []) (pos 1) ∷ [])
 
 unfoldable pub ranking-below-nought : Lexicographic
-ranking-below-nought = argument (component-of (pos 1 ∷ []) (pos 0) (pos 1) ∷ []) (signed-part (pos 1 ∷ pos 0 ∷ []) (pos 0 ∷ negsuc 0 ∷ []) ∷ [])
+ranking-below-nought =
+    argument (component-of (pos 1 ∷ []) (pos 0) (pos 1) ∷ []) (signed-part (pos 1 ∷ pos 0 ∷ []) (pos 0 ∷ negsuc 0 ∷ []) ∷ [])
 
 -- 0, 0, 0, ..
 abbrev pub at-rest : ℕ → List ℤ

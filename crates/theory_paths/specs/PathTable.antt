@@ -8,8 +8,9 @@ use Rattle.whole.specs.Sums.{dot, sum, tabulate}
 use Rattle.theory.specs.Conditions.{rankingTold, rankingTests, _at-each_unless_}
 use Rattle.theory_paths.specs.Paths.{path}
 use Rattle.theory_paths.specs.PathConditions.{every, weighs, pathTests, path-by-path, lexicographicTests, lexicographicTold}
-use Rattle.theory_paths.specs.PathSamples.{component-of, part-of, argument, x-then-y, x-falls, y-falls, two-counters, two-counters-argument}
-use Rattle.theory_paths.specs.PathSamples.{ping-pong, ping-pong-ranking, ping-pong-argument, third-counter, third-owned, free, component-missing}
+use Rattle.theory_paths.specs.PathSamples.{component-of, part-of, argument, x-then-y, x-falls, y-falls, two-counters}
+use Rattle.theory_paths.specs.PathSamples.{two-counters-argument, ping-pong, ping-pong-ranking, ping-pong-argument}
+use Rattle.theory_paths.specs.PathSamples.{third-counter, third-owned, free, component-missing}
 use Rattle.theory_paths.specs.PathSamples.{no-fall, downward, bounded-below-nought, level, ranking-below-nought, loose-ping-pong}
 use Rattle.theory_paths.specs.PathSamples.{unaffecting-below-nought, to-and-fro}
 
@@ -77,7 +78,8 @@ told =
 -- opens all that the table and the samples compute with
 unfoldable pub computing : Unit {0}
 unfolding
-    told lexicographicTold lexicographicTests path-by-path pathTests weighs every first sum dot tabulate rankingTold rankingTests _at-each_unless_
+    told lexicographicTold lexicographicTests path-by-path pathTests weighs every first sum dot tabulate rankingTold rankingTests
+    _at-each_unless_
     two-counters two-counters-argument ping-pong ping-pong-ranking ping-pong-argument third-counter to-and-fro
     free component-missing no-fall downward bounded-below-nought level ranking-below-nought loose-ping-pong unaffecting-below-nought
 computing = tt

@@ -43,13 +43,14 @@ bounding-named b = (
   ),
 )
 
+pub bounded-number : (s : Said) (o : Outcome) (k : ℕ) → number-said s ≡ bounded s o k .verdict .number
+unfolding bounded verdict-of
+bounded-number agreed o k = refl
+bounded-number (refusal a n p) o k = refl
+
 pub number-bounded : (b : Bounding) → number-said (said bounding b) ≡ bounds b .verdict .number
-unfolding bounds bounded verdict-of
-number-bounded b = number-is (said bounding b) _ _
-  where
-    number-is : (s : Said) (o : Outcome) (k : ℕ) → number-said s ≡ bounded s o k .verdict .number
-    number-is agreed o k = refl
-    number-is (refusal a n p) o k = refl
+unfolding bounds
+number-bounded b = bounded-number (said bounding b) _ _
 
 -- 0 is told exactly when every stage is done
 pub bounds-agrees : (b : Bounding) → (bounds b .verdict .number ≡ 0) ↔ Agrees bounding b

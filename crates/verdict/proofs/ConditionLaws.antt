@@ -69,7 +69,7 @@ at-place beyond no-more few f = record { beyond-20 = beyond; no-more = no-more; 
 at-right : {most k : ℕ} → 20 < k → k ≤ 46 → 0 < most → Condition-told most k 0
 at-right beyond no-more some = record { beyond-20 = beyond; no-more = no-more; place-is = some }
 
-ranking-told : (most : ℕ) (l : Loop) (c : Rankings.Ranking) (k p : ℕ) → 0 < most → l .variables ≤ most → RankingFails l c k p
+pub ranking-told : (most : ℕ) (l : Loop) (c : Rankings.Ranking) (k p : ℕ) → 0 < most → l .variables ≤ most → RankingFails l c k p
     → Condition-told most k p
 ranking-told most l c k p some few (fails-21 f) = at-place (omega arith) (omega arith) few f
 ranking-told most l c k p some few (fails-22 g f) = at-place (omega arith) (omega arith) few f

@@ -26,6 +26,7 @@ use Rattle.record.proofs.WriteAccepts.{Accepts, write-accepts-loop, write-accep
 use Rattle.record.proofs.WritableRecords.{Writable}
 use Rattle.record.proofs.WrittenBytes.{over, counts-same, kind-same, list-same, passes-sound}
 use Rattle.record.proofs.WriteThenRead.{has-written}
+use Rattle.refusal.specs.Tests.{done, first}
 use Rattle.refusal.proofs.TestLaws.{passes-done}
 use Rattle.theory.specs.Exclusions.{ExclusionHolds}
 use Rattle.theory.specs.Lassos.{Lasso, LassoHolds}
@@ -127,10 +128,11 @@ pub record Judged-pair (j : Judging) (n m : ℕ) (rs : List Row) (w : Writer) : 
 -- the loop of a written loop record
 loop-written : (n m : ℕ) (rs : List Row) (room : List ℕ) → Rows-in n m rs → Writable (loop-writer n m rs room)
     → (R.counts-read (over (loop-writer n m rs room) is-loop 0) .n ≡ n) × (loop-in (over (loop-writer n m rs room) is-loop 0) ≡ Loops.over n rs)
+    × (R.counts-read (over (loop-writer n m rs room) is-loop 0) .m ≡ m)
 unfolding W.counts-given W.writer loop-in
 loop-written n m rs room rows-in s =
     rw (counts-same (loop-writer n m rs room) s is-loop 0, list-same (loop-writer n m rs room) s is-loop 0)
-    (refl, ap (Loops.over n) (loop-back n m rs rows-in))
+    (refl, ap (Loops.over n) (loop-back n m rs rows-in), refl)
 
 loop-wanted : (n m : ℕ) (rs : List Row) (room : List ℕ) → is-loop (W.kind (loop-writer n m rs room)) ≡ true
 unfolding W.kind W.writer kindOf is-loop
@@ -172,6 +174,28 @@ pub record Loop-given (n m : ℕ) (rs : List Row) (room : List ℕ) : Type 0 whe
 
 loop-told : (n m : ℕ) (rs : List Row) (room : List ℕ) → Loop-given n m rs room → W.writes (loop-writer n m rs room) .number ≡ 0
 loop-told n m rs room g = told-zero _ _ (write-accepts-loop n m rs room (g .counts-in) (g .rows-in) (g .fits))
+
+-- the loop record alone, as every judge finds it: sound, with its counts and its rows
+pub record Loop-held (r : R.Reader) (n m : ℕ) (rs : List Row) : Type 0 where
+  pub loop-sound : first sound r ≡ done
+  pub n-read : R.counts-read r .n ≡ n
+  pub m-read : R.counts-read r .m ≡ m
+  pub loop-is : loop-in r ≡ Loops.over n rs
+
+pub loop-held : (n m : ℕ) (rs : List Row) (room : List ℕ) → Loop-given n m rs room
+    → Loop-held (loop-record (bytes-in (loop-writer n m rs room) room)) n m rs
+unfolding bytes-in
+loop-held n m rs room g =
+    let l = loop-writer n m rs room in
+    let h = has-written l room (loop-told n m rs room g) in
+    let held = loop-written n m rs room (g .rows-in) (h .writable) in
+    rw (h .bytes-told, loop-over n m rs room)
+    (record {
+      loop-sound = passes-done sound (over l is-loop 0) (passes-sound l (h .writable) is-loop 0 (loop-wanted n m rs room));
+      n-read = held .0;
+      m-read = held .2;
+      loop-is = held .1;
+    })
 
 -- a judging of the bytes that are written for a loop and for a certificate
 abbrev pub written : ℕ → ℕ → List Row → List ℕ → Writer → List ℕ → List ℤ → Judging

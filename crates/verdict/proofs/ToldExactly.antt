@@ -71,7 +71,7 @@ said-so agreed o a k p some h = absurd (let z : 0 ≡ k = ap (λ (v : Verdict). 
 said-so (refusal b n q) o a k p some h =
     rw (ap (λ (v : Verdict). v .about) h, ap (λ (v : Verdict). v .number) h, ap (λ (v : Verdict). v .place) h)
 
-bounded-verdict : (s : Said) (o : Outcome) (m : ℕ) → bounded s o m .verdict ≡ verdict-of s o
+pub bounded-verdict : (s : Said) (o : Outcome) (m : ℕ) → bounded s o m .verdict ≡ verdict-of s o
 unfolding bounded
 bounded-verdict agreed o m = refl
 bounded-verdict (refusal a k p) o m = refl

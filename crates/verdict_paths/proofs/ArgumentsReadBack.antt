@@ -40,7 +40,7 @@ use Rattle.verdict_paths.proofs.FieldsAtPlaces.{Fits-at, none-fit, fits
 use Rattle.verdict_paths.proofs.FieldsAtPlaces.{components-together, component-wide, components-wide}
 use Rattle.verdict_paths.proofs.PartsOfBytes.{Stands, stands-whole, stands-within, stands-apart, sum-same, sum-times, sum-alike}
 use Rattle.verdict_paths.proofs.PartsOfBytes.{length-joined, joined-at, tabulate-back, number-read, fields-read, fields-fit-there, field-read}
-use Rattle.verdict_paths.proofs.PartsOfBytes.{count-fits}
+use Rattle.verdict_paths.proofs.PartsOfBytes.{run-long, run-there, count-fits}
 use Rattle.verdict_paths.proofs.PathsReadBack.{counted-between, n-between, paths-between, m-small}
 
 -- what stands for those past the end of a list
@@ -87,19 +87,14 @@ abbrev multipliers-of : ℕ → List Field
 multipliers-of k = replicate k multiplier
 
 module _ (count : ℕ) (ys : List ℤ) (l : List-in multipliers count ys) where
-  list-fits : Fit (multipliers-of (length ys)) ys
-  unfolding multiplier
-  list-fits = fit-same multiplier (length ys) ys (record { counted = refl; each = l .each })
-
-  list-long : length (list-bytes ys) ≡ 2 * count
+  pub list-long : length (list-bytes ys) ≡ 2 * count
   unfolding list-bytes multiplier width
-  list-long =
-      length-bytesOf (multipliers-of (length ys)) ys (list-fits .counted) ∙ widths-replicate (length ys) multiplier ∙ omega (arith, l .counted)
+  list-long = run-long multiplier count ys l ∙ omega arith
 
-  list-there : {bytes : List ℕ} {place : ℕ} → Stands bytes place (list-bytes ys)
+  pub list-there : {bytes : List ℕ} {place : ℕ} → Stands bytes place (list-bytes ys)
       → (numbers-at multiplier count bytes place ≡ ys) × Fits-at (multipliers-of count) bytes place
-  unfolding list-bytes numbers-at
-  list-there s = rw (← l .counted) (fields-read (multipliers-of (length ys)) ys list-fits s, fields-fit-there (multipliers-of (length ys)) ys list-fits s)
+  unfolding list-bytes multiplier
+  list-there s = run-there multiplier count ys l s
 
 -- ---- kind 6
 

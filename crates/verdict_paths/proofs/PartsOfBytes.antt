@@ -11,12 +11,14 @@ use lib.Seq.{take-at, drop-at}
 use Rattle.endian.specs.Numbers.{little, littleAt, digits}
 use Rattle.endian.proofs.Laws.{length-digits, little-digits}
 use Rattle.refusal.specs.Places.{Throughout}
+use Rattle.record.specs.Contents.{List-in}
 use Rattle.record.specs.Fields.{u16, width, number, stored, Field, values, bytesOf, in-range}
 use Rattle.record.specs.Ranges.{within}
-use Rattle.record.proofs.FieldLaws.{length-stored, number-stored, field-holds, values-bytesOf}
-use Rattle.record.proofs.FittingValues.{Fit}
+use Rattle.record.proofs.FieldLaws.{length-stored, number-stored, field-holds, length-bytesOf, values-bytesOf}
+use Rattle.record.proofs.FittingValues.{Fit, fit-same}
+use Rattle.record.proofs.Lengths.{widths-replicate}
 use Rattle.record_fields.specs.Runs.{number-at}
-use Rattle.record_paths.specs.PathFields.{sum-of}
+use Rattle.record_paths.specs.PathFields.{numbers-at, sum-of}
 use Rattle.whole.specs.Sums.{tabulate}
 use Rattle.verdict_paths.specs.PathValues.{joined}
 use Rattle.verdict_paths.proofs.FieldsAtPlaces.{Fits-at, none-fit, first-and}
@@ -131,6 +133,21 @@ module _ {bytes : List ℕ} {place : ℕ} where
   field-read f z fit s =
       ap (number (f .form)) (ap (take (width (f .form))) (read-on s) ∙ take-at (stored (f .form) z) (s .after) (width (f .form)) (length-stored (f .form) z))
       ∙ number-stored (f .form) z (field-holds f z fit)
+
+-- ---- a run of one field: the bytes it takes, what is read of it, and that every number is in range
+
+module _ (f : Field) (count : ℕ) (zs : List ℤ) (l : List-in (f .range) count zs) where
+  run-fits : Fit (replicate (length zs) f) zs
+  run-fits = fit-same f (length zs) zs (record { counted = refl; each = l .each })
+
+  pub run-long : length (bytesOf (replicate (length zs) f) zs) ≡ count * width (f .form)
+  run-long =
+      length-bytesOf (replicate (length zs) f) zs (run-fits .counted) ∙ widths-replicate (length zs) f ∙ ap (λ k. k * width (f .form)) (l .counted)
+
+  pub run-there : {bytes : List ℕ} {place : ℕ} → Stands bytes place (bytesOf (replicate (length zs) f) zs)
+      → (numbers-at f count bytes place ≡ zs) × Fits-at (replicate count f) bytes place
+  unfolding numbers-at
+  run-there s = rw (← l .counted) (fields-read (replicate (length zs) f) zs run-fits s, fields-fit-there (replicate (length zs) f) zs run-fits s)
 
 -- ---- counts
 

@@ -122,7 +122,7 @@ pub record Framed (bytes : List ℕ) : Type 0 where
   pub a-kind : 2 ≤ littleAt 4 bytes 0
   pub stated : length bytes ≡ 4 + littleAt 4 bytes 0
 
-framed-passes : (bytes : List ℕ) → Framed bytes → (r : Reader) → r .bytes ≡ bytes → Passes framing r
+pub framed-passes : (bytes : List ℕ) → Framed bytes → (r : Reader) → r .bytes ≡ bytes → Passes framing r
 unfolding stated-length
 framed-passes bytes f r e =
     let few : 4 + littleAt 4 bytes 0 ≤ length bytes = omega (arith, f .stated) in

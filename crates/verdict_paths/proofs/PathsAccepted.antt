@@ -3,6 +3,7 @@
 use mathlib.Core.Path.{_≡_, refl, sym, ap, _∙_}
 use mathlib.Core.Logic.{_↔_}
 use Prim.Native.Nat.{ℕ, _≤_, _<_}
+use mathlib.Core.List.{[]}
 use native.Mathlib.Omega.{arith}
 use lib.ListN.{length}
 use Rattle.refusal.specs.Tests.{done, first, number}
@@ -15,9 +16,9 @@ use Rattle.theory_paths.specs.PathConditions.{lexicographicTold}
 use Rattle.theory_paths.specs.PathFails.{LexicographicFails, fails-51, fails-52, fails-53}
 use Rattle.theory_paths.specs.Paths.{Branches}
 use Rattle.theory_paths.proofs.PathDecisions.{lexicographic-decided, told-exactly-lexicographic}
-use Rattle.verdict.specs.Stages.{Said, agreed, refusal, said, shows, verdict-of}
-use Rattle.verdict.specs.declared.Outcome.{Outcome}
+use Rattle.verdict.specs.Stages.{said, shows, verdict-of}
 use Rattle.verdict.specs.declared.Outcome.the-variants as Outcomes
+use Rattle.verdict.proofs.RefusedCalls.{refused-said}
 use Rattle.verdict.proofs.StageLaws.{by-told, Agrees, agrees-said, said-agrees, number-said, verdict-number, Named, zero-agreed}
 use Rattle.verdict_paths.specs.PathContents.{branches-in, lexicographic-in}
 use Rattle.verdict_paths.specs.PathJudging.{Path-pair, counts-of, path-judging, path-judges}
@@ -101,9 +102,5 @@ unfolding path-judges verdict-of
 accepted-paths-show p h = rw (agrees-said path-judging p (paths-agree p .0 h))
 
 pub refused-paths-show-nothing : (p : Path-pair) → (path-judges p .number ≡ 0 → ⊥) → path-judges p .outcome ≡ Outcomes.Nothing
-unfolding path-judges verdict-of
-refused-paths-show-nothing p told = by-said (said path-judging p) _ told
-  where
-    by-said : (s : Said) (o : Outcome) → (verdict-of s o .number ≡ 0 → ⊥) → verdict-of s o .outcome ≡ Outcomes.Nothing
-    by-said agreed o h = absurd (h refl)
-    by-said (refusal about k j) o h = refl
+unfolding path-judges
+refused-paths-show-nothing p told = refused-said (said path-judging p) _ [] [] told .0

@@ -1,5 +1,5 @@
--- What sound records of kinds 5 and 6 hold, in the words of the theory: the paths of a loop, and a lexicographic argument for them. Each part
--- stands at the place that crate `record_paths` gives it.
+-- What sound records of kinds 5 and 6 hold, in the words of the theory: the paths of a loop, and a lexicographic argument for them. Each
+-- part stands at the place that crate `record_paths` gives it.
 use Prim.Native.Nat.{ℕ, _+_, _*_}
 use mathlib.Core.List.{List}
 use lib.IntN.{ℤ}

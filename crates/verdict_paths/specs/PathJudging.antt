@@ -1,5 +1,5 @@
--- 02, Q-3: what judging answers of a loop of kind 5, on every pair of byte strings. "Kinds 5 and 6 are judged only together; no rank list is
--- filled, no step count given." So the order is the loop record, the certificate, the conditions; 7 is never told.
+-- 02, Q-3: what judging answers of a loop of kind 5, on every pair of byte strings. "Kinds 5 and 6 are judged only together; no rank list
+-- is filled, no step count given." So the order is the loop record, the certificate, the conditions; 7 is never told.
 use mathlib.Core.List.{List, [], _∷_}
 use Prim.Native.Nat.{ℕ}
 use Rattle.refusal.specs.Tests.{first}

@@ -12,7 +12,8 @@ use Rattle.verdict.specs.Bounding.{bounds, bound-of}
 use Rattle.verdict.specs.declared.Bounded.{Bounded}
 use Rattle.verdict.specs.declared.Verdict.{Verdict}
 use Rattle.verdict_paths.specs.JudgingByLoop.{of-paths, judged, rank-judged}
-use Rattle.verdict_settling.specs.SettlingJudging.{Settling-pair, Settling-judging, Settling-bounding, settling-judges, settling-rank-after, settling-bounds}
+use Rattle.verdict_settling.specs.SettlingJudging.{Settling-pair, Settling-judging, Settling-bounding}
+use Rattle.verdict_settling.specs.SettlingJudging.{settling-judges, settling-rank-after, settling-bounds}
 
 -- the certificate's kind is 8
 unfoldable pub of-settling : List ℕ → Bool
@@ -46,4 +47,5 @@ rank-by-kind loopbytes certificate lent =
 
 unfoldable pub bounded-by-kind : List ℕ → List ℕ → List ℤ → Bounded
 bounded-by-kind loopbytes certificate state =
-    cond (of-settling certificate) (settling-bounds (bounding-of loopbytes certificate state)) (bounds (bound-of loopbytes certificate state))
+    cond (of-settling certificate) (settling-bounds (bounding-of loopbytes certificate state))
+    (bounds (bound-of loopbytes certificate state))

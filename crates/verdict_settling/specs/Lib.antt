@@ -4,5 +4,9 @@ pub mod SettlingContents
 pub mod SettlingJudging
 -- what judging and bound answer, by the kinds of the records
 pub mod AnswersByKind
+-- settlings within the limits, and the bytes that hold them
+pub mod SettlingValues
+-- samples as bytes
+pub mod SettlingSampleBytes
 -- one name that opens every definition, for tables
 pub mod AnswersComputing

@@ -1,6 +1,6 @@
 -- 02, Q-8: what judging and the bound call answer of a certificate of kind 8, on every pair of byte strings, every list and every state.
--- "Judging fills the rank list; the bound call tells that count". The order is that of 01: loop, certificate, then 7 in judging, 10 and 9 in a
--- bound call, then the conditions; 11 is never told.
+-- "Judging fills the rank list; the bound call tells that count". The order is that of 01: loop, certificate, then 7 in judging, 10 and 9
+-- in a bound call, then the conditions; 11 is never told.
 use Prim.Native.Nat.{ℕ}
 use mathlib.Core.List.{List, [], _∷_}
 use lib.Dec.{leb}

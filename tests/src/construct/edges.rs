@@ -5,6 +5,7 @@ use super::{total, Built, Pivots};
 use crate::oracle::conditions::{dot, Exclusion, Lasso, Row};
 use crate::oracle::judging::Certificate;
 use crate::oracle::layout::{ENTRY, MULTIPLIER, RIGHT};
+use crate::oracle::settling::Settling;
 use crate::random::Random;
 
 /// A condition that is an inequality, and so can hold or fail by one.
@@ -14,6 +15,8 @@ pub enum Inequality {
     Fall,
     /// Hb + h0 s0 <= k2 s0.
     Kept,
+    /// Eb <= -k.
+    Rise,
     /// Td <= k s0.
     Start,
     /// A_i·(W - V) + A'_i·W <= q b_i, of the last row.
@@ -34,6 +37,7 @@ pub fn bring_to_edge(built: &mut Built, inequality: Inequality, over: i64) {
         }
         Certificate::Exclusion(exclusion) => exclusion_edge(rows, exclusion, inequality, over),
         Certificate::Lasso(lasso) => lasso_edge(rows, lasso, pivots, inequality, over),
+        Certificate::Settling(settling) => settling_edge(rows, settling, pivots, inequality, over),
     };
     if let Some((row, right)) = found.filter(|(_, right)| RIGHT.holds(*right)) {
         row.right = right;
@@ -110,6 +114,26 @@ fn lasso_edge<'a>(
     }
 }
 
+fn settling_edge<'a>(
+    rows: &'a mut [Row],
+    settling: &Settling,
+    pivots: &Pivots,
+    inequality: Inequality,
+    over: i64,
+) -> Needed<'a> {
+    match inequality {
+        Inequality::Rise => {
+            let most = -settling.k - sum_of_rights(&settling.e, rows);
+            raised(rows, pivots.kept, most + over)
+        }
+        _ => {
+            let z = &settling.ranking.z;
+            let all = sum_of_rights(z, rows) - z[rows.len()] * settling.t;
+            fall_edge(rows, pivots, inequality, over - 1 - all)
+        }
+    }
+}
+
 /// Changes an entry so that A·V + A'·U is `over`, if one has the coefficient 1 or -1 and the range for it.
 fn lead(row: &mut Row, exclusion: &Exclusion, over: i64) {
     let missing = over - (dot(&row.now, &exclusion.v) + dot(&row.next, &exclusion.u)) as i64;
@@ -124,9 +148,9 @@ fn lead(row: &mut Row, exclusion: &Exclusion, over: i64) {
     }
 }
 
-/// Gives Kept and Start something to spare, where the built pair holds them with equality.
+/// Gives Kept, Start and Rise something to spare, where the built pair holds them with equality.
 pub fn slacken(built: &mut Built, random: &mut Random) {
-    for inequality in [Inequality::Kept, Inequality::Start] {
+    for inequality in [Inequality::Kept, Inequality::Start, Inequality::Rise] {
         if random.one_in(2) {
             bring_to_edge(built, inequality, -random.between(1, 1000));
         }
@@ -176,12 +200,16 @@ pub fn scale(certificate: &mut Certificate, random: &mut Random) {
             scale_lists(random, &mut [scales, h, std::slice::from_mut(h0)]);
             scale_lists(random, &mut [&mut ranking.y, &mut ranking.z]);
         }
+        Certificate::Settling(Settling { k, e, ranking, .. }) => {
+            scale_lists(random, &mut [std::slice::from_mut(k), e]);
+            scale_lists(random, &mut [&mut ranking.y, &mut ranking.z]);
+        }
     }
 }
 
 #[cfg(test)]
 mod tests {
-    use super::super::{exclusion, lasso, ranking, Style};
+    use super::super::{exclusion, lasso, ranking, settling, Style};
     use super::*;
 
     fn accepted(built: &Built) -> bool {
@@ -190,6 +218,7 @@ mod tests {
             Certificate::Ranking(ranking) => ranking.judged(n, rows).is_ok(),
             Certificate::Exclusion(exclusion) => exclusion.judged(rows).is_ok(),
             Certificate::Lasso(lasso) => lasso.judged(n, rows).is_ok(),
+            Certificate::Settling(settling) => settling.judged(n, rows).is_ok(),
         }
     }
 
@@ -238,6 +267,8 @@ mod tests {
             let built = lasso(&mut random, n, m, ms, style);
             let parts = [Inequality::Fall, Inequality::Kept, Inequality::Start];
             check(built, &parts, &mut random);
+            let built = settling(&mut random, n, m, style);
+            check(built, &[Inequality::Rise, Inequality::Fall], &mut random);
         }
     }
 }

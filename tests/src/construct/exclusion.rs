@@ -19,7 +19,7 @@ pub(super) fn step_of(row: &Row, exclusion: &Exclusion) -> i128 {
 }
 
 /// Changes a row until the direction (V, U) never leaves it and the step has room for a right side in range.
-fn allow(row: &mut Row, exclusion: &Exclusion, tight: bool) {
+pub(super) fn allow(row: &mut Row, exclusion: &Exclusion, tight: bool) {
     if tight {
         flatten(row, exclusion);
     }

@@ -14,6 +14,7 @@ pub fn breakable(built: &Built) -> Vec<u64> {
         Certificate::Ranking(_) => vec![21, 22, 23, 24],
         Certificate::Exclusion(_) => vec![31, 32],
         Certificate::Lasso(_) => vec![41, 42, 43, 44, 45, 46, 21, 22, 23, 24],
+        Certificate::Settling(_) => vec![61, 62, 63, 21, 22, 23, 24],
     };
     numbers.retain(|&number| match number {
         31 | 32 => !pair.rows.is_empty(),
@@ -39,13 +40,14 @@ fn weighs_in_y(pair: &Pair, row: usize) -> bool {
         Certificate::Ranking(ranking) => ranking.y[row] != 0,
         Certificate::Exclusion(_) => false,
         Certificate::Lasso(lasso) => lasso.ranking.y[row] != 0,
+        Certificate::Settling(settling) => settling.ranking.y[row] != 0,
     }
 }
 
 /// In how many places a condition can fail: n columns, m rows, or the one of right sides.
 pub fn places(number: u64, n: usize, m: usize) -> usize {
     match number {
-        24 | 43 | 46 => 1,
+        24 | 43 | 46 | 63 => 1,
         31 | 32 => m,
         _ => n,
     }
@@ -59,6 +61,7 @@ pub fn fail(built: &mut Built, number: u64, place: usize, by: i64) {
         24 => bring_to_edge(built, Inequality::Fall, by.abs()),
         43 => bring_to_edge(built, Inequality::Start, by.abs()),
         46 => bring_to_edge(built, Inequality::Kept, by.abs()),
+        63 => bring_to_edge(built, Inequality::Rise, by.abs()),
         31 | 32 => fail_row(built, number, place, by.abs()),
         _ => fail_column(built, number, place, by),
     }
@@ -75,7 +78,7 @@ fn fail_column(built: &mut Built, number: u64, column: usize, by: i64) {
         _ => &mut pair.rows,
     };
     let entries = match number {
-        22 | 41 | 44 => &mut rows[pivot].now,
+        22 | 41 | 44 | 61 => &mut rows[pivot].now,
         _ => &mut rows[pivot].next,
     };
     let changed = entries[column] + by;
@@ -125,7 +128,7 @@ fn lead_out(row: &mut Row, exclusion: &Exclusion, by: i64) -> bool {
 
 #[cfg(test)]
 mod tests {
-    use super::super::{exclusion, lasso, ranking, Style};
+    use super::super::{exclusion, lasso, ranking, settling, Style};
     use super::*;
     use crate::oracle::Refusal;
     use crate::random::Random;
@@ -138,6 +141,7 @@ mod tests {
             Certificate::Ranking(ranking) => ranking.failing(n, rows),
             Certificate::Exclusion(exclusion) => exclusion.failing(rows),
             Certificate::Lasso(lasso) => lasso.failing(n, rows),
+            Certificate::Settling(settling) => settling.failing(n, rows),
         };
         let number_and_place = |refusal: &Refusal| (refusal.number, refusal.place as usize);
         failing.first().map(number_and_place)
@@ -191,8 +195,10 @@ mod tests {
             check(exclusion(&mut random, n, m, style), &mut counts);
             let ms = random.below(6);
             check(lasso(&mut random, n, m, ms, style), &mut counts);
+            check(settling(&mut random, n, m, style), &mut counts);
         }
-        let pairs = 4 * 5 / 2 + 3 + 10 * 11 / 2 - 4 * 5 / 2;
+        let ranking = 4 * 5 / 2;
+        let pairs = 3 + 10 * 11 / 2 + 7 * 8 / 2 - ranking;
         assert_eq!(counts.len(), pairs, "{counts:?}");
         assert!(counts.values().all(|&count| count >= 20), "{counts:?}");
     }

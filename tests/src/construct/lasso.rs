@@ -1,7 +1,7 @@
 //! Loops with an accepted lasso.
 
-use super::ranking::{ranking, settle_ranking, steep_ranking, Added};
-use super::{drop_half, in_range, some_fall, total, two_places, Built, Pivots, Style, NEAR};
+use super::ranking::{leaning_ranking, ranking, steep_ranking};
+use super::{drop_half, in_range, total, Built, Pivots, Style, NEAR};
 use crate::forms::Pair;
 use crate::oracle::conditions::{Lasso, Ranking, Row};
 use crate::oracle::judging::Certificate;
@@ -64,7 +64,7 @@ pub(super) fn settle_sums(
     }
 }
 
-fn times(scale: i64, list: &[i64]) -> Vec<i64> {
+pub(super) fn times(scale: i64, list: &[i64]) -> Vec<i64> {
     list.iter().map(|entry| scale * entry).collect()
 }
 
@@ -88,7 +88,8 @@ fn lasso_with_invariant(random: &mut Random, n: usize, m: usize, ms: usize, styl
     };
     let (stem, t) = closed_stem(random, &invariant, ms, style, &pivots);
     let mut rows = style.rows(random, n, m);
-    let ranking = leaning_ranking(random, &invariant, &mut rows, style, &mut pivots);
+    let row = (&invariant.s[..], invariant.s0);
+    let ranking = leaning_ranking(random, row, &mut rows, style, &mut pivots);
     let h = closed_kept(random, &invariant, &mut rows, style, &pivots);
     let Invariant { s, s0, k, k2, h0 } = invariant;
     let lasso = Lasso {
@@ -128,36 +129,6 @@ fn closed_stem(
     let pivot = pivots.stem.expect("a stem has a row");
     settle_sums(&mut stem, &mut t, pivot, (&now, &next, k * s0));
     (stem, t)
-}
-
-/// Chooses the loop's pivots and closes a ranking that leans on the invariant.
-fn leaning_ranking(
-    random: &mut Random,
-    invariant: &Invariant,
-    rows: &mut [Row],
-    style: Style,
-    pivots: &mut Pivots,
-) -> Ranking {
-    let m = rows.len();
-    let (kept, fall) = two_places(random, m);
-    let start = (0..m).find(|i| ![kept, fall].contains(i) && !random.one_in(4));
-    (pivots.kept, pivots.fall, pivots.start) = (Some(kept), Some(fall), start);
-    let mut ranking = Ranking {
-        y: style.weights(random, m),
-        z: style.weights(random, m),
-    };
-    (ranking.y[kept], ranking.z[kept]) = (0, 0);
-    let mut added = Added {
-        s: invariant.s.clone(),
-        s0: invariant.s0,
-        y: random.between(0, 2),
-        z: random.between(0, 2),
-    };
-    let amount = some_fall(random);
-    settle_ranking(rows, &mut ranking, &mut added, start, (fall, amount));
-    ranking.y.push(added.y);
-    ranking.z.push(added.z);
-    ranking
 }
 
 /// The multipliers H, with the rows set so that the invariant is kept.

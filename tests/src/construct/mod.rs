@@ -10,6 +10,7 @@ mod failing;
 mod lasso;
 mod lexicographic;
 mod ranking;
+mod settling;
 
 pub use edges::{bring_to_edge, scale, slacken, Inequality};
 pub use exclusion::exclusion;
@@ -20,6 +21,7 @@ pub use lexicographic::{
     Condition, PathSizes, Wrong,
 };
 pub use ranking::{ranking, steep_ranking};
+pub use settling::{curve, settling};
 
 use crate::forms::Pair;
 use crate::oracle::conditions::Row;
@@ -57,7 +59,7 @@ pub struct Pivots {
     pub start: Option<usize>,
     /// The row that closes Z(A + A') = 0 and Zb < 0.
     pub fall: Option<usize>,
-    /// The row that closes the lasso's "kept" part.
+    /// The row that closes the lasso's "kept" part, or a settling's rise.
     pub kept: Option<usize>,
     /// The stem row that closes the lasso's "start" part.
     pub stem: Option<usize>,

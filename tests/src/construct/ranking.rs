@@ -7,7 +7,7 @@ use crate::oracle::judging::Certificate;
 use crate::oracle::layout::RIGHT;
 use crate::random::Random;
 
-/// The added row of a lasso with its two weights. A plain ranking has one of zeros.
+/// The added row -s·x <= s0 with its two weights. A plain ranking has one of zeros.
 pub(super) struct Added {
     pub s: Vec<i64>,
     pub s0: i64,
@@ -71,6 +71,36 @@ pub(super) fn settle_ranking(
             (added.y, added.z) = (if start.is_none() { 1 } else { 0 }, 0);
         }
     }
+}
+
+/// Chooses the loop's pivots, of which `kept` has no weight, and closes a ranking that leans on the added row -s·x <= s0.
+pub(super) fn leaning_ranking(
+    random: &mut Random,
+    (s, s0): (&[i64], i64),
+    rows: &mut [Row],
+    style: Style,
+    pivots: &mut Pivots,
+) -> Ranking {
+    let m = rows.len();
+    let (kept, fall) = two_places(random, m);
+    let start = (0..m).find(|i| ![kept, fall].contains(i) && !random.one_in(4));
+    (pivots.kept, pivots.fall, pivots.start) = (Some(kept), Some(fall), start);
+    let mut ranking = Ranking {
+        y: style.weights(random, m),
+        z: style.weights(random, m),
+    };
+    (ranking.y[kept], ranking.z[kept]) = (0, 0);
+    let mut added = Added {
+        s: s.to_vec(),
+        s0,
+        y: random.between(0, 2),
+        z: random.between(0, 2),
+    };
+    let amount = some_fall(random);
+    settle_ranking(rows, &mut ranking, &mut added, start, (fall, amount));
+    ranking.y.push(added.y);
+    ranking.z.push(added.z);
+    ranking
 }
 
 /// A loop with an accepted ranking. With one row only a loop without a step has one, without rows none has.

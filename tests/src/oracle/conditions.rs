@@ -1,5 +1,5 @@
 //! The published conditions: ranking, exclusion and lasso over lists of rows, and the bound formula. No byte in sight. Those of
-//! a loop with several paths stand in `lexicographic`.
+//! a settling stand in `settling`, those of a loop with several paths in `lexicographic`.
 //!
 //! A condition that fails is told by its number, with the column or the row in which it fails, counted from 0, or 0 for
 //! right sides. All columns, or rows, of one condition come before the next condition.
@@ -74,13 +74,13 @@ pub fn weighted(multipliers: &[i64], rows: &[Row], of: impl Fn(&Row) -> i64) -> 
 
 /// The tests that fail, in the order in which they are told.
 #[derive(Default)]
-struct Failing {
-    told: Vec<Refusal>,
+pub(super) struct Failing {
+    pub told: Vec<Refusal>,
 }
 
 impl Failing {
     /// A condition in each of so many columns or rows.
-    fn each(&mut self, number: u64, count: usize, holds: impl Fn(usize) -> bool) {
+    pub fn each(&mut self, number: u64, count: usize, holds: impl Fn(usize) -> bool) {
         let fails = (0..count).filter(|&place| !holds(place));
         self.told.extend(fails.map(|place| Refusal {
             number,
@@ -89,7 +89,7 @@ impl Failing {
     }
 
     /// A condition on right sides.
-    fn right_sides(&mut self, number: u64, holds: bool) {
+    pub fn right_sides(&mut self, number: u64, holds: bool) {
         self.each(number, 1, |_| holds);
     }
 }
@@ -118,7 +118,7 @@ impl Ranking {
         failing.told
     }
 
-    fn rank(&self, n: usize, rows: &[Row]) -> Rank {
+    pub(super) fn rank(&self, n: usize, rows: &[Row]) -> Rank {
         let Ranking { y, z } = self;
         Rank {
             r: (0..n)

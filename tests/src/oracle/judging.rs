@@ -5,6 +5,7 @@ use super::layout::{Kind, STATE};
 use super::lexicographic::{Branches, Lexicographic};
 use super::paths::{lexicographic, path_loop, LEXICOGRAPHIC, PATH_LOOP};
 use super::record::{certificate_record, framed, loop_record, Record, CERTIFICATES};
+use super::settling::Settling;
 use super::{refuse, Refusal};
 
 /// What a record's values are, in the words of the conditions.
@@ -13,7 +14,12 @@ pub enum Certificate {
     Ranking(Ranking),
     Exclusion(Exclusion),
     Lasso(Lasso),
+    Settling(Settling),
 }
+
+/// The kinds of certificate that are judged with a loop of one path, and those that have a bound.
+const JUDGED: [Kind; 4] = [Kind::Ranking, Kind::Exclusion, Kind::Lasso, Kind::Settling];
+const BOUNDED: [Kind; 3] = [Kind::Ranking, Kind::Lasso, Kind::Settling];
 
 /// A verdict. The outcome is the kind of the certificate that gave it, the grade 1 for whole and 2 for fractions; 0
 /// where there is none.
@@ -119,6 +125,16 @@ pub fn certificate(record: Record) -> Certificate {
                 },
             })
         }
+        Kind::Settling => Certificate::Settling(Settling {
+            g: parts.list(n),
+            t: parts.one(),
+            k: parts.one(),
+            e: parts.list(m),
+            ranking: Ranking {
+                y: parts.list(m + 1),
+                z: parts.list(m + 1),
+            },
+        }),
     }
 }
 
@@ -154,7 +170,7 @@ fn excluded(exclusion: &Exclusion) -> Verdict {
     }
 }
 
-/// The verdict on a certificate that was read, with the rank of kinds 2 and 4.
+/// The verdict on a certificate that was read, with the rank of all kinds but 3.
 fn verdict(
     n: usize,
     rows: &[Row],
@@ -173,6 +189,10 @@ fn verdict(
             let rank = lasso.judged(n, rows)?;
             Ok((ranked(Kind::Lasso, &rank), Some(rank)))
         }
+        Certificate::Settling(settling) => {
+            let rank = settling.judged(n, rows)?;
+            Ok((ranked(Kind::Settling, &rank), Some(rank)))
+        }
     }
 }
 
@@ -182,11 +202,12 @@ pub fn failing(
     loop_bytes: &[u8],
     certificate_bytes: &[u8],
 ) -> Option<(usize, usize, Vec<Refusal>)> {
-    let (n, rows, certificate) = both(loop_bytes, certificate_bytes, &CERTIFICATES).ok()?;
+    let (n, rows, certificate) = both(loop_bytes, certificate_bytes, &JUDGED).ok()?;
     let failing = match certificate {
         Certificate::Ranking(ranking) => ranking.failing(n, &rows),
         Certificate::Exclusion(exclusion) => exclusion.failing(&rows),
         Certificate::Lasso(lasso) => lasso.failing(n, &rows),
+        Certificate::Settling(settling) => settling.failing(n, &rows),
     };
     Some((n, rows.len(), failing))
 }
@@ -199,13 +220,22 @@ pub fn exclusion_of(loop_bytes: &[u8], certificate_bytes: &[u8]) -> Option<Exclu
     }
 }
 
-/// The loop record, then the certificate, then 7 (kinds 2 and 4 only), then the conditions.
+/// The settling of two records that are sound; none if they are not, or if the certificate is of another kind.
+pub fn settling_of(loop_bytes: &[u8], certificate_bytes: &[u8]) -> Option<Settling> {
+    match both(loop_bytes, certificate_bytes, &[Kind::Settling]) {
+        Ok((_, _, Certificate::Settling(settling))) => Some(settling),
+        _ => None,
+    }
+}
+
+/// The loop record, then the certificate, then 7 (not for kind 3), then the conditions.
 fn judged(
     loop_bytes: &[u8],
     certificate_bytes: &[u8],
+    wanted: &[Kind],
     list: &mut [i64],
 ) -> Result<Verdict, Refused> {
-    let (n, rows, certificate) = both(loop_bytes, certificate_bytes, &CERTIFICATES)?;
+    let (n, rows, certificate) = both(loop_bytes, certificate_bytes, wanted)?;
     let fills = !matches!(certificate, Certificate::Exclusion(_));
     if fills && list.len() < n {
         return of_record(0, refuse(7, n));
@@ -243,15 +273,19 @@ fn judged_paths(loop_bytes: &[u8], certificate_bytes: &[u8]) -> Result<Verdict, 
 pub fn judge(loop_bytes: &[u8], certificate_bytes: &[u8], list: &mut [i64]) -> Verdict {
     let judged = match framed(loop_bytes) {
         Ok(PATH_LOOP) => judged_paths(loop_bytes, certificate_bytes),
-        _ => judged(loop_bytes, certificate_bytes, list),
+        _ => judged(loop_bytes, certificate_bytes, &JUDGED, list),
     };
     judged.unwrap_or_else(refused)
 }
 
-/// Loop (kind 5 gives 4), certificate (kinds 3 and 6 give 4), 10, 9, the conditions, 11.
+/// On a sheet the kinds are those that are read.
+pub fn judge_on_sheet(loop_bytes: &[u8], certificate_bytes: &[u8], list: &mut [i64]) -> Verdict {
+    judged(loop_bytes, certificate_bytes, &CERTIFICATES, list).unwrap_or_else(refused)
+}
+
+/// Loop (kind 5 gives 4), certificate (kinds 3 and 6 give 4), 10, 9, the conditions, 11 (of a lasso).
 fn bounded(loop_bytes: &[u8], certificate_bytes: &[u8], state: &[i64]) -> Result<Bounded, Refused> {
-    let (n, rows, certificate) =
-        both(loop_bytes, certificate_bytes, &[Kind::Ranking, Kind::Lasso])?;
+    let (n, rows, certificate) = both(loop_bytes, certificate_bytes, &BOUNDED)?;
     if state.len() != n {
         return of_record(0, refuse(10, state.len()));
     }
@@ -259,13 +293,14 @@ fn bounded(loop_bytes: &[u8], certificate_bytes: &[u8], state: &[i64]) -> Result
         return of_record(0, refuse(9, index));
     }
     let (verdict, rank) = of_record(2, verdict(n, &rows, &certificate))?;
-    match &certificate {
+    let rank = rank.expect("an exclusion has no bound");
+    let bound = match &certificate {
         Certificate::Lasso(lasso) if !lasso.invariant_holds(state) => {
             return of_record(2, refuse(11, 0));
         }
-        _ => {}
-    }
-    let bound = rank.expect("kinds 2 and 4 have a rank").bound(state);
+        Certificate::Settling(settling) => settling.bound(state),
+        _ => rank.bound(state),
+    };
     Ok(Bounded {
         verdict,
         bound: u64::try_from(bound).expect("the ranges keep the bound within 64 bits"),

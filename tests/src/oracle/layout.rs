@@ -1,5 +1,5 @@
-//! Numbers and their ranges; the kinds of record that are read and written, and the fields of each, in layout order. Those
-//! of kinds 5 and 6 stand in `paths`.
+//! Numbers and their ranges; the kinds of record that go by one n and m, and the fields of each, in layout order. Those of
+//! kinds 5 and 6 stand in `paths`.
 
 /// The least and the greatest number that a thing may be.
 #[derive(Clone, Copy, Debug, PartialEq, Eq)]
@@ -22,9 +22,9 @@ impl Range {
 pub const VARIABLES: Range = Range::new(1, 16);
 /// Loop rows m, stem rows ms.
 pub const ROWS: Range = Range::new(0, 64);
-/// Entries of A, A', B, B', s.
+/// Entries of A, A', B, B', s, g.
 pub const ENTRY: Range = Range::new(-30_000, 30_000);
-/// b, d, s0.
+/// b, d, s0, t.
 pub const RIGHT: Range = Range::new(-2_000_000_000, 2_000_000_000);
 /// Multipliers; h0 is one of them.
 pub const MULTIPLIER: Range = Range::new(0, 60_000);
@@ -101,16 +101,23 @@ pub const A_DIRECTION: Field = field(Form::I32, DIRECTION);
 const A_ROW_COUNT: Field = field(Form::U16, ROWS);
 pub const A_FALL: Field = field(Form::I32, FALL);
 
-/// The kinds of record that are read and written.
+/// The kinds of record that go by one n and m.
 #[derive(Clone, Copy, Debug, PartialEq, Eq)]
 pub enum Kind {
     Loop,
     Ranking,
     Exclusion,
     Lasso,
+    Settling,
 }
 
-pub const KINDS: [Kind; 4] = [Kind::Loop, Kind::Ranking, Kind::Exclusion, Kind::Lasso];
+pub const KINDS: [Kind; 5] = [
+    Kind::Loop,
+    Kind::Ranking,
+    Kind::Exclusion,
+    Kind::Lasso,
+    Kind::Settling,
+];
 
 impl Kind {
     pub fn of(number: u64) -> Option<Kind> {
@@ -123,6 +130,7 @@ impl Kind {
             Kind::Ranking => 2,
             Kind::Exclusion => 3,
             Kind::Lasso => 4,
+            Kind::Settling => 8,
         }
     }
 
@@ -130,7 +138,7 @@ impl Kind {
     pub fn counts_length(self) -> usize {
         match self {
             Kind::Loop => 6,
-            Kind::Ranking | Kind::Exclusion => 2,
+            Kind::Ranking | Kind::Exclusion | Kind::Settling => 2,
             Kind::Lasso => 4,
         }
     }
@@ -162,6 +170,7 @@ impl Shape {
             Kind::Ranking => 2 + 4 * m,
             Kind::Exclusion => 4 + 12 * n,
             Kind::Lasso => 18 + 2 * n + ms * (4 * n + 6) + 6 * m,
+            Kind::Settling => 12 + 2 * n + 6 * m,
         }
     }
 
@@ -174,6 +183,17 @@ impl Shape {
             place += field.form.width();
         }
         places
+    }
+
+    /// Which values are the parts g, t, k, E, Y, Z of a settling.
+    pub fn settling_parts(self) -> [std::ops::Range<usize>; 6] {
+        let mut start = 0;
+        let Shape { n, m, .. } = self;
+        [n, 1, 1, m, m + 1, m + 1].map(|count| {
+            let part = start..start + count;
+            start = part.end;
+            part
+        })
     }
 
     /// The values of the body in layout order, without the n and m of kind 1.
@@ -206,6 +226,13 @@ impl Shape {
                 add(1, A_SCALE); // k2
                 add(m, A_MULTIPLIER); // H
                 add(1, A_MULTIPLIER); // h0
+                add(2 * (m + 1), A_MULTIPLIER); // Y, then Z
+            }
+            Kind::Settling => {
+                add(n, AN_ENTRY); // g
+                add(1, A_RIGHT); // t
+                add(1, A_SCALE); // k
+                add(m, A_MULTIPLIER); // E
                 add(2 * (m + 1), A_MULTIPLIER); // Y, then Z
             }
         }

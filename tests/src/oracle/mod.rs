@@ -10,12 +10,15 @@ pub mod layout;
 pub mod lexicographic;
 pub mod paths;
 pub mod record;
+pub mod settling;
 pub mod sheet;
 
 #[cfg(test)]
 mod path_samples;
 #[cfg(test)]
 mod samples;
+#[cfg(test)]
+mod settling_samples;
 
 /// A refusal's number and its place.
 #[derive(Clone, Copy, Debug, PartialEq, Eq)]

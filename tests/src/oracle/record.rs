@@ -114,7 +114,7 @@ pub fn certificate_record(
     body(bytes, Shape { kind, n, m, ms })
 }
 
-/// The kinds of certificate.
+/// The kinds of certificate that are read.
 pub const CERTIFICATES: [Kind; 3] = [Kind::Ranking, Kind::Exclusion, Kind::Lasso];
 
 /// What a reading answers.
@@ -168,6 +168,9 @@ pub fn read_certificate(bytes: &[u8], n: u64, m: u64, list: &mut [i64]) -> Readi
     reading(filled(certificate_record(bytes, &CERTIFICATES, n, m), list))
 }
 
+/// The kinds that are written.
+const WRITTEN: [Kind; 4] = [Kind::Loop, Kind::Ranking, Kind::Exclusion, Kind::Lasso];
+
 /// What a writing answers.
 #[derive(Clone, Copy, Debug, Default, PartialEq, Eq)]
 pub struct Writing {
@@ -178,7 +181,7 @@ pub struct Writing {
 
 /// The shape of the record that would be written: 4, 5 for n and m, 12 if ms is absent, 5 for ms.
 fn shape_to_write(kind: u64, n: u64, m: u64, values: &[i64]) -> Result<Shape, Refusal> {
-    let Some(kind) = Kind::of(kind) else {
+    let Some(kind) = Kind::of(kind).filter(|kind| WRITTEN.contains(kind)) else {
         return refuse(4, 4);
     };
     let (place_of_n, place_of_m) = match kind {

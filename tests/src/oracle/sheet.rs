@@ -1,6 +1,6 @@
 //! The program "sheet": what it prints for an input.
 
-use super::judging::{judge, Verdict};
+use super::judging::{judge_on_sheet, Verdict};
 use super::record::{loop_record, stated_length};
 use super::Refusal;
 
@@ -46,7 +46,7 @@ pub fn sheet(input: &[u8]) -> String {
     while !rest.is_empty() {
         let (certificate, after) = part(rest);
         let mut rank = vec![0; n];
-        let verdict = judge(loop_bytes, certificate, &mut rank);
+        let verdict = judge_on_sheet(loop_bytes, certificate, &mut rank);
         count += 1;
         text += &format!("{count} {}\n", line(verdict, &rank));
         rest = after;

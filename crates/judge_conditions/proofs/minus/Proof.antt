@@ -1,12 +1,12 @@
--- `judge_paths::minus` meets its contract. Assumes nothing.
+-- `judge_conditions::minus` meets its contract. Assumes nothing.
 use Prim.Native.Nat.{_≤_}
 use mathlib.Core.Path.{refl}
 use native.Mathlib.Omega.{arith}
 use lib.IntN.{negℤ, natAbs, +ℤ-idl}
 use mir.Facts.{toZ-ofZ}
 use Rattle.whole.proofs.Size.{abs-neg, fits-abs, back}
-use Rattle.judge_paths.proofs.minus.Statement.{statement}
-use Rattle.judge_paths.proofs.minus.Tie as tie
+use Rattle.judge_conditions.proofs.minus.Statement.{statement}
+use Rattle.judge_conditions.proofs.minus.Tie as tie
 
 small : (c : tie.Start) → natAbs (negℤ (c .args .z)) ≤ 2147483648
 small c = omega (arith, abs-neg (c .args .z), c .pre)

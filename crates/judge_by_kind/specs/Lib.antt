@@ -1,0 +1,2 @@
+-- what a settling shows, and what judging it answers
+pub mod SettlingShown
