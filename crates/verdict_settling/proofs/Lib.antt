@@ -18,3 +18,5 @@ pub mod SettlingInValues
 pub mod SettlingSamples
 -- the edges
 pub mod SettlingEdges
+-- wrong judges
+pub mod WrongSettlingJudges
