@@ -70,10 +70,10 @@ abbrev too-soon-pair : Settling-pair
 too-soon-pair = pair-of curve-bytes too-soon-bytes
 
 -- a list of three places, and a state
-abbrev three : List ℤ
+abbrev pub three : List ℤ
 three = pos 7 ∷ pos 8 ∷ pos 9 ∷ []
 
-abbrev at-0-5 : List ℤ
+abbrev pub at-0-5 : List ℤ
 at-0-5 = pos 0 ∷ pos 5 ∷ []
 
 -- ---- what the bytes hold
