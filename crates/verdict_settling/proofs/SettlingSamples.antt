@@ -9,8 +9,8 @@ use native.Mathlib.Omega.{arith}
 use lib.IntN.{ℤ, pos, negsuc}
 use lib.ListN.{length, take, replicate, set}
 use lib.Signed.{leZ-yes}
-use Rattle.record.specs.Contents.{Counts-in, Rows-in, row-values, rows-values}
-use Rattle.record.specs.Ranges.{_to_, either-way, variables, rows, entries, right-sides, scales, multipliers, state-entries}
+use Rattle.record.specs.Contents.{Counts-in, Rows-in}
+use Rattle.record.specs.Ranges.{either-way, state-entries}
 use Rattle.record.specs.Samples as Records
 use Rattle.theory.specs.Loops.{Run, Endless}
 use Rattle.theory.specs.Rankings.{bound}

@@ -26,7 +26,7 @@ use Rattle.verdict_settling.specs.AnswersComputing.{computing}
 use Rattle.verdict_settling.specs.SettlingJudging.{loop-of}
 use Rattle.verdict_settling.specs.SettlingSampleBytes.{curve-bytes, curve-settling-bytes, curve-exclusion-bytes}
 use Rattle.verdict_settling.proofs.SettlingDemands.{settling-ends-bytes}
-use Rattle.verdict_settling.proofs.SettlingSamples.{three, at-0-5, too-soon-bytes, curve-answers, both-accepted, curve-bound-kept}
+use Rattle.verdict_settling.proofs.SettlingSamples.{three, at-0-5, too-soon-bytes, curve-answers, both-accepted}
 
 -- the curve's settling is accepted, so a judge that refuses everything is wrong there; and one that refuses what is excluded too
 pub refuses-everything : (verdict : Verdict) → (verdict .number ≡ 0 → ⊥) → verdict ≡ judged-by-kind curve-bytes curve-settling-bytes three → ⊥

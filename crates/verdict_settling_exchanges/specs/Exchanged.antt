@@ -1,6 +1,6 @@
--- The table of exchanges for kind 8: the answer of judging for every exchange of two fields of one form, and of two lists of one form and length,
--- rows among them, in the loop and in the settling. Every one is refused. `tests/exchanges.py` works the lines out from 01 and 02 alone and says
--- whether one is left out.
+-- The table of exchanges for kind 8: the answer of judging for every exchange of two fields of one form, and of two lists of one form and
+-- length, rows among them, in the loop and in the settling. Every one is refused. `tests/exchanges.py` works the lines out from 01 and 02
+-- alone and says whether one is left out.
 use mathlib.Core.List.{List, [], _∷_}
 use Rattle.verdict_exchanges.specs.Exchanges.{Line, _bytes-at_and_refused_at_of_}
 

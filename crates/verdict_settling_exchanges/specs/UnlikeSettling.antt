@@ -1,6 +1,6 @@
--- A loop and a settling for it in which no two numbers of one form are alike in a record, as bytes written out from the layouts of 01 and of 02,
--- Q-8, and as the values that they hold. Every sum is exact, the rise meets its limit with nothing to spare, and so does the fall, which is 1:
--- what is exchanged is refused.
+-- A loop and a settling for it in which no two numbers of one form are alike in a record, as bytes written out from the layouts of 01 and
+-- of 02, Q-8, and as the values that they hold. Every sum is exact, the rise meets its limit with nothing to spare, and so does the fall,
+-- which is 1: what is exchanged is refused.
 use Prim.Native.Nat.{ℕ}
 use mathlib.Core.List.{List, [], _∷_}
 use lib.IntN.{pos}
