@@ -16,7 +16,6 @@ use Rattle.theory_settling.specs.Settlings.{longer, unsettled, settling-bound}
 use Rattle.verdict.specs.Bounding.{bounded, bounds, bound-of, certificates-bounded}
 use Rattle.verdict.specs.Stages.{agreed, refusal, said, verdict-of}
 use Rattle.verdict.specs.StateTests.{state-tests}
-use Rattle.verdict.specs.declared.Bounded.{Bounded}
 use Rattle.verdict.proofs.StageLaws.{by-told, stage-done, stage-refused, agrees-said}
 use Rattle.verdict.proofs.StatesInRange.{State-in, state-fits}
 use Rattle.verdict.proofs.SmallSums.{small-state}
@@ -27,7 +26,6 @@ use Rattle.judge_conditions.specs.LoopHeld.{loop-held}
 use Rattle.judge_ranking.specs.RankedBy.{ranked-of, RankedBy}
 use Rattle.judge_ranking.specs.declared.Ranked.{Ranked}
 use Rattle.judge.specs.SoundPairs.{first-row, LoopSound}
-use Rattle.judge.proofs.SoundSizes.{n-few}
 use Rattle.judge_bound.specs.BoundShown.{no-bound, StateFits}
 use Rattle.judge_bound.proofs.BoundingWays as Rows
 use Rattle.judge_settling.specs.SettlingBy.{SettlingBy}

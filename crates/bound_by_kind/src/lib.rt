@@ -6,7 +6,6 @@ ghost use Prim.Native.Nat.{_+_, _*_, _≤_, _<_};
 ghost use lib.IntN.{natAbs, _-ℤ_};
 ghost use lib.Signed.{ltZ};
 ghost use lib.ListN.{length};
-ghost use Rattle.whole.specs.Sums.{Within};
 ghost use Rattle.verdict_settling.specs.AnswersByKind.{bounding-of, bounded-by-kind};
 ghost use Rattle.verdict_settling.specs.SettlingJudging.{settling-bounds};
 ghost use Rattle.judge.specs.SoundPairs.{LoopSound};

@@ -2,7 +2,7 @@
 use mathlib.Core.Path.{_≡_}
 use mathlib.Core.Bool.{true, false}
 use native.Mathlib.Omega.{arith}
-use lib.IntN.{pos, natAbs, _-ℤ_}
+use lib.IntN.{pos, _-ℤ_}
 use lib.Signed.{ltZ, _≤ℤ_, yes-nonNeg}
 use mir.Syntax.{w64}
 use mir.Val.{SFits}
