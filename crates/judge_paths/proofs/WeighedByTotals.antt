@@ -4,10 +4,9 @@ use Prim.Native.Nat.{ℕ, zero, suc, _+_, _*_, _≤_, _<_}
 use mathlib.Core.Bool.{Bool, true, false, _&&_}
 use mathlib.Core.List.{List}
 use native.Mathlib.Omega.{arith}
-use lib.IntN.{ℤ, pos, negsuc, negℤ, _-ℤ_, _*ℤ_}
+use lib.IntN.{ℤ, pos, negsuc, negℤ, _*ℤ_}
 use lib.ListN.{getD}
 use lib.Signed.{leZ}
-use Rattle.refusal.proofs.TestLaws.{either}
 use Rattle.whole.specs.Same.{sameZ}
 use Rattle.whole.proofs.Solve.{v, neg, _⊗_, solve}
 use Rattle.whole.proofs.Tables.{tabulate-at}

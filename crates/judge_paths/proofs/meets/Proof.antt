@@ -1,5 +1,4 @@
 -- `judge_paths::meets` meets its contract: the right sides are asked first, then the columns. Assumes nothing.
-use Prim.Native.Nat.{_≤_}
 use mathlib.Core.Path.{_≡_}
 use mathlib.Core.Bool.{true, false}
 use native.Mathlib.Omega.{arith}

@@ -1,5 +1,5 @@
 -- `judge_totals::sum_rows` meets its contract: before each turn the totals are those of the rows so far, and the next row starts at `at`. Assumes nothing.
-use Prim.Native.Nat.{_+_, _*_, _-_, _≤_, _<_}
+use Prim.Native.Nat.{_+_, _-_, _≤_, _<_}
 use mathlib.Core.Path.{_≡_, refl, _∙_}
 use native.Mathlib.Omega.{arith}
 use lib.ListN.{length}

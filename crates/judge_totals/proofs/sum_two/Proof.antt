@@ -1,6 +1,6 @@
 -- `judge_totals::sum_two` meets its contract: before each turn the totals of both lists are those of the rows so far, and the next row starts at `at`. Assumes
 -- nothing.
-use Prim.Native.Nat.{_+_, _*_, _-_, _≤_, _<_}
+use Prim.Native.Nat.{_+_, _-_, _≤_, _<_}
 use mathlib.Core.Path.{_≡_, refl, _∙_}
 use native.Mathlib.Omega.{arith}
 use lib.ListN.{length}
