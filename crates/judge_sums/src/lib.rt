@@ -107,7 +107,7 @@ pub fn add_lifted(sum: i64, multiplier: usize, rows: &[u8], place: usize) -> i64
 
 // One row more for two lists of totals: the row's entries are read in one visit, several at once,
 // and not at all where neither list gives the row weight.
-fn add_row(
+pub fn add_row(
     ys: &mut [i64],
     zs: &mut [i64],
     y: usize,
