@@ -3,8 +3,8 @@
 lists, are exchanged.
 
     tests/exchanges.py table           the lines of the proved tables
-    tests/exchanges.py check           whether specs/Exchanged.antt of crates verdict_exchanges and verdict_paths_exchanges have these
-                                       lines and no others
+    tests/exchanges.py check           whether specs/Exchanged.antt of crates verdict_exchanges, verdict_paths_exchanges and
+                                       verdict_settling_exchanges have these lines and no others
     tests/exchanges.py sheet KIND      a sheet: the loop, the certificate of that kind, and every exchanged one
     tests/exchanges.py text KIND       the text that the sheet must have
 
@@ -52,6 +52,10 @@ ARGUMENT = {
 ONE_PATH = {"n": 2, "paths": [[([-4, -5], [0, -2], -2), ([8, 11], [1, 7], 1), ([4, 6], [-3, -8], 6)]]}
 ONE_ARGUMENT = {"components": [([-4, -13], 8, 1)], "parts": [(0, [[13, 6, 2], [12, 5, 3]])]}
 
+# 02, Q-8: a loop and a settling for it
+SETTLING_LOOP = {"A": [[-13, 11], [6, -2], [3, -11]], "A'": [[5, -10], [-14, 12], [15, 2]], "b": [-4, 4, 1]}
+SETTLING = {"g": [-6, 2], "t": -2, "k": 8, "E": [6, 3, 4], "Y": [13, 10, 5, 12], "Z": [7, 2, 1, 9]}
+
 # ---- layouts: a list of (name, form, numbers) in 01's order, after length and kind
 
 WIDTH = {"u16": 2, "i16": 2, "i32": 4}
@@ -81,6 +85,8 @@ def layout(kind, c):
         for r, start, fall in c["components"]:
             parts += [("r", "i32", r), ("δ0", "i32", [start]), ("δ", "i32", [fall])]
         return parts + [("weights", "u16", ys) for _, lists in c["parts"] for ys in lists]
+    if kind == 8:
+        return [("g", "i16", c["g"]), ("t", "i32", [c["t"]]), ("k", "u16", [c["k"]])] + [(name, "u16", c[name]) for name in "EYZ"]
     return (
         [("ms", "u16", [len(c["d"])])]
         + rows_layout(c["B"], c["B'"], c["d"], ("B", "B'", "d"))
@@ -132,7 +138,7 @@ def exchanged(data, width, p, q):
     return data[:p] + data[q:q + width] + data[p + width:q] + data[p:p + width] + data[q + width:]
 
 
-# ---- 01's judge, as plainly as it can be written: (number, place, record) of a refusal, or the outcome of an acceptance
+# ---- 01's judge and 02's of settlings, as plainly as it can be written: (number, place, record) of a refusal, or the outcome of an acceptance
 
 
 class Refused(Exception):
@@ -227,6 +233,19 @@ def judge(loop, certificate):
             each(31, m, lambda i: total(rows[i][0], V) + total(rows[i][1], U) <= 0)
             each(32, m, lambda i: total(rows[i][0], before) + total(rows[i][1], W) <= q * rows[i][2])
             return ("excluded", "whole" if all(z % q == 0 for z in V + W) else "fractions")
+        if kind == 8:
+            if len(certificate) - 4 != 12 + 2 * n + 6 * m:
+                raise Refused(3, 0, 2)
+            g, at = take(certificate, 6, "entry", n, 2)
+            (t,), at = take(certificate, at, "right", 1, 2)
+            (k,), at = take(certificate, at, "scale", 1, 2)
+            E, at = take(certificate, at, "multiplier", m, 2)
+            Y, at = take(certificate, at, "multiplier", m + 1, 2)
+            Z, at = take(certificate, at, "multiplier", m + 1, 2)
+            each(61, n, lambda j: total(E, column(rows, 0, j)) == k * g[j])
+            each(62, n, lambda j: total(E, column(rows, 1, j)) == -k * g[j])
+            right_sides(63, total(E, [r[2] for r in rows]) <= -k)
+            return ("settling",) + ranked(n, rows + [([-z for z in g], [0] * n, -t)], Y, Z)
         ms = number(certificate, 6, "u16")
         if ms > 64:
             raise Refused(5, 6, 2)
@@ -335,12 +354,15 @@ CASES = {
     "argument": (record(5, PATHS), record(6, ARGUMENT), 2, 6, ARGUMENT),
     "one-path": (record(5, ONE_PATH), record(6, ONE_ARGUMENT), 1, 5, ONE_PATH),
     "one-argument": (record(5, ONE_PATH), record(6, ONE_ARGUMENT), 2, 6, ONE_ARGUMENT),
+    "settled-loop": (record(1, SETTLING_LOOP), record(8, SETTLING), 1, 1, SETTLING_LOOP),
+    "settling": (record(1, SETTLING_LOOP), record(8, SETTLING), 2, 8, SETTLING),
 }
 
 # the crates that have them
 TABLES = {
     "verdict_exchanges": ("loop", "ranking", "exclusion", "lasso"),
     "verdict_paths_exchanges": ("paths", "argument", "one-path", "one-argument"),
+    "verdict_settling_exchanges": ("settled-loop", "settling"),
 }
 
 
@@ -364,7 +386,7 @@ def line(width, p, q, told):
         return f"({width} bytes-at {p} and {q} refused {told[1]} at {told[2]} of {told[3]})"
     if told[0] == "excluded":
         return f"({width} bytes-at {p} and {q} show Exclusion {told[1].capitalize()})"
-    name = {"rank": "Ranking", "lasso": "Lasso"}[told[0]]
+    name = {"rank": "Ranking", "lasso": "Lasso", "settling": "Settling"}[told[0]]
     return f"({width} bytes-at {p} and {q} show {name} {whole(told[2])} {whole(told[3])})"
 
 

@@ -241,9 +241,12 @@ pub(crate) fn some_certificate_kind(random: &mut Random) -> Kind {
     random.pick(&[Kind::Ranking, Kind::Exclusion, Kind::Lasso])
 }
 
-/// A certificate of any kind and any values in range for the pair's loop.
+/// A certificate of any values in range for the pair's loop: a settling for a settling, otherwise of any kind but that.
 fn any_certificate(random: &mut Random, pair: &Pair) -> Certificate {
-    let kind = some_certificate_kind(random);
+    let kind = match pair.certificate {
+        Certificate::Settling(_) => Kind::Settling,
+        _ => some_certificate_kind(random),
+    };
     let ms = if kind == Kind::Lasso {
         some_stem_rows(random)
     } else {

@@ -36,10 +36,7 @@ fn move_threshold(random: &mut Random, built: &mut Built, state: &[i64]) {
     let threshold = dot(&settling.g, state) as i64 + below;
     let weight = settling.ranking.z[pair.rows.len()];
     let right = |row: usize| pair.rows[row].right + weight * (threshold - settling.t);
-    let moved = match pivots.fall {
-        Some(row) => Some((row, right(row))),
-        None => None,
-    };
+    let moved = pivots.fall.map(|row| (row, right(row)));
     let fits = moved.map_or(weight == 0, |(_, right)| RIGHT.holds(right));
     if !fits || !RIGHT.holds(threshold) {
         return;
@@ -59,7 +56,7 @@ fn bound(random: &mut Random) -> Case {
     bound_at(random, built.pair, state)
 }
 
-/// A curve's loop, its settling and its exclusion, the two perhaps multiplied by factors.
+/// A curve's loop with its settling, which may be multiplied by factors, and its exclusion.
 fn some_curve(random: &mut Random) -> (Pair, Vec<u8>) {
     let (n, m) = some_size(random);
     let style = some_style(random);

@@ -122,7 +122,7 @@ fn bound(name: &[u8], line: &[u8], from: usize)
     let list = cases_lines::numbers(line, second.at, &mut state);
     let a = first.count;
     let b = second.count;
-    let answer = judge_bound::bound(
+    let answer = bound_by_kind::bound(
         cases_lines::bytes_of(&looped, a),
         cases_lines::bytes_of(&certificate, b),
         cases_lines::values_of(&state, list),

@@ -84,6 +84,10 @@ fn shown(outcome: Outcome) {
             start_and_fall(start, fall);
         }
         Outcome::Lexicographic => word(b" lexicographic"),
+        Outcome::Settling { start, fall } => {
+            word(b" settling");
+            start_and_fall(start, fall);
+        }
     }
 }
 

@@ -15,7 +15,8 @@ use judge_ranking::Ranked;
 use record::Wanted;
 use verdict::Bounded;
 
-fn refused(about: usize, number: usize, place: usize) -> Bounded
+// A refusal: it has no bound.
+pub fn refused(about: usize, number: usize, place: usize) -> Bounded
     ensures { λ r. ⌜ r ≡ no-bound about number place ⌝ }
 {
     Bounded {

@@ -1,6 +1,6 @@
 -- The ways through the judge, one for each return: what the checks and the conditions tell of a loop of several paths, and which judge answers by the records'
 -- kinds, records that are too short for a kind included.
-use mathlib.Core.Path.{_≡_, refl, sym, ap, _∙_}
+use mathlib.Core.Path.{_≡_, refl, sym, _∙_}
 use Prim.Native.Nat.{ℕ, _<_}
 use mathlib.Core.Bool.{true, false, not, _&&_}
 use mathlib.Core.List.{List}

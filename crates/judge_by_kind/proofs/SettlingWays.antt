@@ -7,7 +7,7 @@ use lib.IntN.{ℤ, pos}
 use lib.ListN.{length, drop}
 use borrow.Author.Tests.{le-leb, lt-leb, ne-eqb}
 use Rattle.refusal.specs.Tests.{done, refused, first}
-use Rattle.refusal.proofs.TestLaws.{passed, failed, passes-done}
+use Rattle.refusal.proofs.TestLaws.{failed, passes-done}
 use Rattle.theory.specs.Rankings.{start, fall, rank}
 use Rattle.theory_settling.specs.Settlings.{longer}
 use Rattle.verdict.specs.Judging.{ranks, judges, rank-after, judge-of, certificates-judged}

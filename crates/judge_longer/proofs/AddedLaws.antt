@@ -17,7 +17,7 @@ use Rattle.whole.proofs.SumLaws.{sum-append}
 use Rattle.whole.proofs.Tables.{length-tabulate, tabulate-more}
 use Rattle.endian.specs.Numbers.{littleAt}
 use Rattle.judge_sums.specs.Lists.{multipliersFrom, entriesFrom, rowsFrom}
-use Rattle.judge_sums.specs.Places.{entryAt, multiplierAt, liftTerm, ColumnOf, SumsOf, AllModest, mostEntry}
+use Rattle.judge_sums.specs.Places.{entryAt, multiplierAt, rightTerm, liftTerm, ColumnOf, SumsOf, AllModest, mostEntry, mostRight}
 use Rattle.judge_sums.specs.Running.{Modest, SumOf}
 use Rattle.judge_sums.proofs.LiftLaws.{sums-size, column-in}
 use Rattle.theory.specs.Loops.{A, A′, b}
@@ -27,7 +27,7 @@ use Rattle.judge_conditions.specs.LoopHeld.{loop-held}
 use Rattle.judge_ranking.specs.RankingHeld.{ranking-held}
 use Rattle.judge_longer.specs.LongerHeld.{longer-held}
 use Rattle.judge_conditions.proofs.Totals.{entry-is}
-use Rattle.judge_conditions.proofs.Totals.{now-is, next-is}
+use Rattle.judge_conditions.proofs.Totals.{now-is, next-is, right-is}
 
 -- ---- one row more
 
@@ -72,10 +72,16 @@ module _ (rows certificate : List ℕ) (start n m place s : ℕ) (right : ℤ) w
   unfolding longer-held loop-held
   next-added j below = sum-one-more certificate place m (A′ j) (rowsFrom rows n start m) _ rows-long ∙ rw (getD-replicate n j (pos 0) (pos 0) below, *ℤ-zero, +ℤ-idr)
 
-  pub right-added : sum (multipliersFrom certificate place (m + 1)) b long-rows
+  right-added : sum (multipliersFrom certificate place (m + 1)) b long-rows
       ≡ sum (multipliersFrom certificate place m) b (rowsFrom rows n start m) +ℤ multiplierAt certificate (place + 2 * m) *ℤ right
   unfolding longer-held loop-held
   right-added = sum-one-more certificate place m b (rowsFrom rows n start m) _ rows-long
+
+  -- a total of the loop's right sides, and the added row's
+  pub rights-longer : (last : ℕ) (total r : ℤ) → last ≡ littleAt 2 certificate (place + 2 * m) → SumOf m mostRight (rightTerm certificate place rows start n) total
+      → r ≡ total +ℤ pos last *ℤ right → r ≡ sum (multipliersFrom certificate place (m + 1)) b long-rows
+  unfolding multiplierAt
+  rights-longer last total r told is more = rw (told, right-is certificate place rows start n m total is) at more ∙ sym right-added
 
 -- ---- the added row's terms, taken from a list of totals one after another
 

@@ -1,14 +1,11 @@
 // A ranking over a loop with one row added at the end (01, "Lasso"): the loop's totals, and the added row's terms. The row is -s·x <=
 // right: minus the entries that lie from a place on, and a right side, which comes as a value (s0 of a lasso).
 ghost use mathlib.Core.Path.{_≡_};
-ghost use Prim.Native.Nat.{ℕ, _+_, _*_, _≤_, _<_};
-ghost use lib.IntN.{ℤ, pos, natAbs, _+ℤ_, _-ℤ_, _*ℤ_};
+ghost use Prim.Native.Nat.{_+_, _*_, _≤_, _<_};
+ghost use lib.IntN.{pos, natAbs, _+ℤ_, _-ℤ_, _*ℤ_};
 ghost use lib.ListN.{length};
-ghost use Rattle.whole.specs.Sums.{sum};
-ghost use Rattle.theory.specs.Loops.{b};
 ghost use Rattle.judge_sums.specs.Places.{RowsIn, AllModest};
 ghost use Rattle.judge_sums.specs.Running.{CanGrow, Modest};
-ghost use Rattle.judge_sums.specs.Lists.{multipliersFrom};
 ghost use Rattle.judge_ranking.specs.RankedBy.{RankingBy};
 ghost use Rattle.judge_ranking.specs.RankingHeld.{ranking-held};
 ghost use Rattle.judge_longer.specs.LongerHeld.{RowTaken, longer-held};
@@ -37,81 +34,17 @@ fn take_row(sums: &mut [i64], n: usize, multiplier: usize, certificate: &[u8], s
 }
 
 // A total and a multiplier times a right side: one row more.
-fn and_times(total: Total, k: usize, z: i64) -> Total
-    requires { ⌜ (natAbs (total .sum) ≤ 9147797156659200) × (k < 65536) × (natAbs z ≤ 2147483648) ⌝ }
-    ensures { λ r. ⌜ (r .sum ≡ total .sum +ℤ pos k *ℤ z) × CanGrow (r .sum) ⌝ }
+fn and_times(total: i64, k: usize, z: i64) -> i64
+    requires { ⌜ (natAbs total ≤ 9147797156659200) × (k < 65536) × (natAbs z ≤ 2147483648) ⌝ }
+    ensures { λ r. ⌜ (r ≡ total +ℤ pos k *ℤ z) × CanGrow r ⌝ }
 {
-    total.plus(k as i64, z)
+    let sum = Total { sum: total };
+    let more = sum.plus(k as i64, z);
+    more.sum
 }
 
-// The right sides under one list of multipliers, which has one more for the added row's.
-fn longer_right(
-    rows: &[u8],
-    start: usize,
-    n: usize,
-    m: usize,
-    certificate: &[u8],
-    place: usize,
-    right: i64,
-) -> Total
-    requires { ⌜ RowsIn (now rows) start n m × (m ≤ 64) × (n ≤ 16) × (place < 131072)
-        × (place + 2 * (m + 1) ≤ length (now certificate)) × (natAbs right ≤ 2147483648) ⌝ }
-    ensures { λ r. ⌜ ((s : ℕ) → r .sum ≡ sum (multipliersFrom (now (certificate .entry)) place (m + 1)) b
-        (longer-held (now (rows .entry)) start n m (now (certificate .entry)) s right .rows))
-        × CanGrow (r .sum) ⌝ }
-{
-    let total = judge_sums::right_of(rows, start, n, certificate, place, m);
-    and_times(total, endian::u16_at(certificate, place + 2 * m), right)
-}
-
-// The four conditions over the loop with the added row -s·x <= right, whatever its right side, once the totals over the right sides are
-// known. Where all hold the rank is put.
-fn longer_totals(
-    rows: &[u8],
-    start: usize,
-    n: usize,
-    m: usize,
-    certificate: &[u8],
-    place: usize,
-    s: usize,
-    yb: i64,
-    zb: i64,
-    rank: &mut [i64],
-) -> Ranked
-    requires { ⌜ RowsIn (now rows) start n m × (m ≤ 64) × (n ≤ 16) × (place < 65536) × (s < 65536)
-        × (place + 4 * (m + 1) ≤ length (now certificate)) × (s + 2 * n ≤ length (now certificate))
-        × CanGrow yb × CanGrow zb × (n ≤ length (now rank)) ⌝ }
-    ensures { λ r. ⌜ ((right : ℤ)
-        → yb ≡ sum (ranking-held (now (certificate .entry)) place (m + 1) .Y) b (longer-held (now (rows .entry)) start n m (now (certificate .entry)) s right .rows)
-        → zb ≡ sum (ranking-held (now (certificate .entry)) place (m + 1) .Z) b (longer-held (now (rows .entry)) start n m (now (certificate .entry)) s right .rows)
-        → RankingBy r (longer-held (now (rows .entry)) start n m (now (certificate .entry)) s right)
-        (ranking-held (now (certificate .entry)) place (m + 1))
-        (now (rank .entry)) (now (rank .exit))) ⌝ }
-{
-    let z = place + 2 * (m + 1);
-    let ylift = judge_sums::lift_of(certificate, place, m);
-    let zlift = judge_sums::lift_of(certificate, z, m);
-    let mut ys = [0i64; 32];
-    let mut zs = [0i64; 32];
-    judge_sums::add_rows(&mut ys, &mut zs, rows, start, n, certificate, place, z, m);
-    take_row(
-        &mut ys,
-        n,
-        endian::u16_at(certificate, place + 2 * m),
-        certificate,
-        s,
-    );
-    take_row(
-        &mut zs,
-        n,
-        endian::u16_at(certificate, z + 2 * m),
-        certificate,
-        s,
-    );
-    judge_ranking::by_totals(&ys, &zs, n, ylift.sum, zlift.sum, yb, zb, rank)
-}
-
-// The four conditions over the loop with the added row -s·x <= right.
+// The four conditions over the loop with the added row -s·x <= right: the loop's totals in one visit of each row, the added row's terms,
+// and what they tell. Where all hold the rank is put.
 pub fn longer_ranking(
     rows: &[u8],
     start: usize,
@@ -130,18 +63,18 @@ pub fn longer_ranking(
         (ranking-held (now (certificate .entry)) place (m + 1))
         (now (rank .entry)) (now (rank .exit)) ⌝ }
 {
-    let yb = longer_right(rows, start, n, m, certificate, place, right);
-    let zb = longer_right(rows, start, n, m, certificate, place + 2 * (m + 1), right);
-    longer_totals(
-        rows,
-        start,
-        n,
-        m,
-        certificate,
-        place,
-        s,
-        yb.sum,
-        zb.sum,
-        rank,
-    )
+    let z = place + 2 * (m + 1);
+    let mut ys = [0i64; 32];
+    let mut zs = [0i64; 32];
+    let beside = judge_sums::add_rows(&mut ys, &mut zs, rows, start, n, certificate, place, z, m);
+    let under_y = beside.y;
+    let under_z = beside.z;
+    let y_last = endian::u16_at(certificate, place + 2 * m);
+    let z_last = endian::u16_at(certificate, z + 2 * m);
+    take_row(&mut ys, n, y_last, certificate, s);
+    take_row(&mut zs, n, z_last, certificate, s);
+    let yb = and_times(under_y.right, y_last, right);
+    let zb = and_times(under_z.right, z_last, right);
+    let fault = judge_ranking::columns_fault(&ys, &zs, n, under_y.lift, under_z.lift);
+    judge_ranking::by_totals(fault, &zs, n, under_z.lift, yb, zb, rank)
 }

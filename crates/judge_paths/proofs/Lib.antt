@@ -1,3 +1,4 @@
 pub mod WeighedByTotals
 pub mod PathPlaces
+pub mod Pairs
 pub mod PathsHeld

@@ -9,8 +9,7 @@ use native.Mathlib.Omega.{arith}
 use lib.Dec.{eqb}
 use lib.IntN.{ℤ, pos, negsuc, negℤ}
 use borrow.Author.Tests.{eq-eqb, ne-eqb}
-use lib.ListN.{length, replicate, take, drop, getD, length-replicate}
-use lib.Seq.{take-all}
+use lib.ListN.{length, getD}
 use Rattle.endian.specs.Numbers.{littleAt}
 use Rattle.refusal.specs.Places.{Throughout}
 use Rattle.refusal.specs.Tests.{Told, done, refused}
@@ -18,9 +17,8 @@ use Rattle.refusal.proofs.TestLaws.{either}
 use Rattle.whole.specs.Rows.{Row}
 use Rattle.whole.specs.Sums.{tabulate}
 use Rattle.whole.proofs.Tables.{length-tabulate, tabulate-at}
-use Rattle.record.specs.Fields.{width, number, Field, values}
-use Rattle.record.specs.Layouts.{direction, right-side, multiplier, rowsOf}
-use Rattle.record.proofs.FieldLaws.{length-values}
+use Rattle.record.specs.Fields.{width, number}
+use Rattle.record.specs.Layouts.{direction, rowsOf}
 use Rattle.record_fields.specs.Runs.{number-at}
 use Rattle.record_paths.specs.PathFields.{fall, numbers-at}
 use Rattle.record_paths.specs.PathLoops.{variables-in, paths-in, rows-in, rows-before, rows-place}
@@ -33,7 +31,7 @@ use Rattle.theory_paths.specs.Lexicographics.{Lexicographic, Component, PathPar
 use Rattle.theory_paths.specs.PathConditions.{every, weighs, path-told, lexicographicTold}
 use Rattle.theory_paths.proofs.PathLaws.{every-same, path-51, path-52, path-53, path-done, paths-done, paths-refused}
 use Rattle.judge_sums.specs.Lists.{multipliersFrom, rightsFrom, rowsFrom}
-use Rattle.judge_sums.specs.Places.{multiplierAt, rightAt}
+use Rattle.judge_sums.specs.Places.{rightAt}
 use Rattle.judge_held.proofs.HeldRuns.{rows-held}
 use Rattle.judge_held.proofs.NumbersHeld.{run-is, multipliers-are, start-is}
 use Rattle.verdict.specs.Contents.{rows-from}

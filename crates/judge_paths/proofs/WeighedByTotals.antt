@@ -4,10 +4,9 @@ use Prim.Native.Nat.{ℕ, zero, suc, _+_, _*_, _≤_, _<_}
 use mathlib.Core.Bool.{Bool, true, false, _&&_}
 use mathlib.Core.List.{List}
 use native.Mathlib.Omega.{arith}
-use lib.IntN.{ℤ, pos, negsuc, negℤ, _-ℤ_, _*ℤ_}
+use lib.IntN.{ℤ, pos, negsuc, negℤ, _*ℤ_}
 use lib.ListN.{getD}
 use lib.Signed.{leZ}
-use Rattle.refusal.proofs.TestLaws.{either}
 use Rattle.whole.specs.Same.{sameZ}
 use Rattle.whole.proofs.Solve.{v, neg, _⊗_, solve}
 use Rattle.whole.proofs.Tables.{tabulate-at}
@@ -16,11 +15,12 @@ use Rattle.theory.specs.WeightedRows.{Weighted, sum-of, times-v}
 use Rattle.theory_paths.specs.PathConditions.{every, weighs}
 use Rattle.theory_paths.proofs.PathLaws.{every-same}
 use Rattle.judge_sums.specs.Lists.{rightsFrom}
-use Rattle.judge_sums.specs.Places.{rightAt, liftTerm, rightTerm, SumsOf, mostEntry, mostRight}
-use Rattle.judge_sums.specs.Running.{SumOf}
-use Rattle.judge_sums.proofs.LiftLaws.{column-in}
-use Rattle.judge_conditions.proofs.Totals.{now-is, next-is, right-is}
-use Rattle.judge_paths.specs.PathByPlaces.{weighted-by, column-held}
+use Rattle.judge_sums.specs.Places.{rightAt, AllModest}
+use Rattle.judge_sums.specs.Running.{CanGrow, Modest}
+use Rattle.judge_sums.proofs.LiftLaws.{column-in, sums-modest}
+use Rattle.judge_totals.specs.Visits.{TotalsOf}
+use Rattle.judge_conditions.proofs.Totals.{now-is, next-is, right-is, lift-modest, can-grow}
+use Rattle.judge_paths.specs.PathByPlaces.{weighted-by, column-held, totals-held}
 
 -- ---- tests at every place
 
@@ -54,8 +54,15 @@ unfolding rightsFrom
 right-at bytes place n j below = tabulate-at n (λ j. rightAt bytes (place + 4 * j)) j (pos 0) below
 
 module _ (rows : List ℕ) (row n m : ℕ) (certificate : List ℕ) (place r next : ℕ) (limit : ℤ) (few : m ≤ 64) (sums : List ℤ) (lift right : ℤ)
-    (summed : SumsOf certificate place rows row n m sums) (lifted : SumOf m mostEntry (liftTerm certificate place) lift)
-    (righted : SumOf m mostRight (rightTerm certificate place rows row n) right) where
+    (totals : TotalsOf certificate place rows row n m sums lift right) where
+  -- their sizes
+  pub sizes : AllModest (2 * n) sums × Modest lift × CanGrow right
+  sizes = (
+    sums-modest certificate place rows row n m sums (totals .columns) (omega arith),
+    lift-modest m _ lift (omega arith) (totals .lifts),
+    can-grow m 140735340871680 _ right (omega arith) (omega arith) (totals .rights),
+  )
+
   abbrev w : Weighted
   w = weighted-by rows row n m certificate place r next limit
 
@@ -64,7 +71,7 @@ module _ (rows : List ℕ) (row n m : ℕ) (certificate : List ℕ) (place r nex
       ≡ (sameZ (sum-of w (A j)) (times-v w (w .now) j) && sameZ (sum-of w (A′ j)) (times-v w (w .next) j))
   unfolding column-held weighted-by
   column-is j below =
-      let under = column-in certificate place rows row n m j sums lift summed lifted below in
+      let under = column-in certificate place rows row n m j sums lift (totals .columns) (totals .lifts) below in
       let small : m ≤ 65 = omega arith in
       let entry = right-at certificate r n j below in
       ap₂ (λ x y. x && y)
@@ -73,7 +80,7 @@ module _ (rows : List ℕ) (row n m : ℕ) (certificate : List ℕ) (place r nex
 
   right-total : right ≡ sum-of w b
   unfolding weighted-by
-  right-total = right-is certificate place rows row n m right righted
+  right-total = right-is certificate place rows row n m right (totals .rights)
 
   -- ---- all of it
 
@@ -86,6 +93,6 @@ module _ (rows : List ℕ) (row n m : ℕ) (certificate : List ℕ) (place r nex
   columns-are : every n (column-held sums lift n certificate r next) ≡ (every n over-A && every n over-A′)
   columns-are = every-same n (column-held sums lift n certificate r next) (λ j. over-A j && over-A′ j) column-is ∙ every-both n over-A over-A′
 
-  pub weighs-is : (leZ right limit && every n (column-held sums lift n certificate r next)) ≡ weighs n w
+  pub weighs-is : totals-held sums lift right n certificate r next limit ≡ weighs n w
   unfolding weighs weighted-by
   weighs-is = rw (right-total, columns-are) (sym (last-first (every n over-A) (every n over-A′) (leZ (sum-of w b) limit)))

@@ -5,6 +5,7 @@ use mathlib.Core.Bool.{Bool, cond, _&&_}
 use mathlib.Core.List.{List}
 use lib.IntN.{ℤ, pos, negsuc, negℤ, _-ℤ_, _*ℤ_}
 use lib.ListN.{length, getD}
+use lib.Signed.{leZ}
 use Rattle.judge_sums.specs.Lists.{multipliersFrom, rightsFrom, rowsFrom}
 use Rattle.judge_sums.specs.Places.{rightAt, RowsIn}
 use Rattle.theory.specs.WeightedRows.{Weighted}
@@ -28,6 +29,10 @@ unfoldable pub column-held : List ℤ → ℤ → ℕ → List ℕ → ℕ → �
 column-held sums lift n certificate r next j =
     sameZ (getD sums j (pos 0) -ℤ lift) (negℤ (rightAt certificate (r + 4 * j)))
     && sameZ (getD sums (n + j) (pos 0) -ℤ lift) (pos next *ℤ rightAt certificate (r + 4 * j))
+
+-- what the totals are held to: the right sides', and every column
+abbrev pub totals-held : List ℤ → ℤ → ℤ → ℕ → List ℕ → ℕ → ℕ → ℤ → Bool
+totals-held sums lift right n certificate r next limit = leZ right limit && every n (column-held sums lift n certificate r next)
 
 -- ---- the conditions: components lie from `first` on, `own` is where the path's own stands, and `place` is where a list stands
 

@@ -11,8 +11,8 @@ use lib.ListN.{length, getD, set, drop}
 use lib.Seq.{drop-cons, append-snoc, set-at}
 use lib.Signed.{ltZ}
 use Rattle.refusal.specs.Tests.{Told, done, refused, _then_}
-use Rattle.refusal.specs.Places.{before-failing, told-once}
-use Rattle.refusal.proofs.PlaceLaws.{told-at, told-past, told-same, then-assoc}
+use Rattle.refusal.specs.Places.{Throughout, before-failing, told-once}
+use Rattle.refusal.proofs.PlaceLaws.{before-all, before-first, told-at, told-past, told-same, then-assoc}
 use Rattle.refusal.proofs.FaultLaws.{Named, named-then, named-each}
 use Rattle.whole.specs.Same.{sameZ}
 use Rattle.whole.specs.Sums.{sum, tabulate}
@@ -38,25 +38,43 @@ module _ (ys : List ℤ) (ylift : ℤ) (zs : List ℤ) (zlift : ℤ) (n : ℕ) w
   abbrev told : ℕ → Told
   told number = column-told number ys ylift zs zlift n
 
-  pub walk-ended : (number r : ℕ) → r ≡ before-failing n (holds-at number ys ylift zs zlift n) → r < n → told number ≡ refused number r
+  walk-ended : (number r : ℕ) → r ≡ before-failing n (holds-at number ys ylift zs zlift n) → r < n → told number ≡ refused number r
   unfolding column-told
   walk-ended number r is below = told-at number n _ r is below
 
-  pub walk-passed : (number r : ℕ) → r ≡ before-failing n (holds-at number ys ylift zs zlift n) → n ≤ r → told number ≡ done
+  walk-passed : (number r : ℕ) → r ≡ before-failing n (holds-at number ys ylift zs zlift n) → n ≤ r → told number ≡ done
   unfolding column-told
   walk-passed number r is past = told-past number n _ r is past
 
-  pub first-fails : (r : ℕ) → told 21 ≡ refused 21 r → columns-told ys ylift zs zlift n ≡ refused 21 r
+  first-fails : (r : ℕ) → told 21 ≡ refused 21 r → columns-told ys ylift zs zlift n ≡ refused 21 r
   unfolding columns-told _then_
   first-fails r h = rw h
 
-  pub second-fails : (r : ℕ) → told 21 ≡ done → told 22 ≡ refused 22 r → columns-told ys ylift zs zlift n ≡ refused 22 r
+  second-fails : (r : ℕ) → told 21 ≡ done → told 22 ≡ refused 22 r → columns-told ys ylift zs zlift n ≡ refused 22 r
   unfolding columns-told _then_
   second-fails r g h = rw (g, h)
 
-  pub third-asked : told 21 ≡ done → told 22 ≡ done → columns-told ys ylift zs zlift n ≡ told 23
+  third-asked : told 21 ≡ done → told 22 ≡ done → columns-told ys ylift zs zlift n ≡ told 23
   unfolding columns-told _then_
   third-asked g h = rw (g, h)
+
+  -- by one walk that ends at a column that fails the first, or has gone along all of them and remembered the others
+  pub first-told : (j : ℕ) → j < n → holds-at 21 ys ylift zs zlift n j ≡ false → Throughout j (λ k. holds-at 21 ys ylift zs zlift n k ≡ true)
+      → columns-told ys ylift zs zlift n ≡ refused 21 j
+  first-told j below fails before = first-fails j (walk-ended 21 j (sym (before-first n _ j below fails before)) below)
+
+  module _ (all : Throughout n (λ k. holds-at 21 ys ylift zs zlift n k ≡ true)) (second : ℕ) (second-is : second ≡ before-failing n (holds-at 22 ys ylift zs zlift n)) where
+    first-done : told 21 ≡ done
+    first-done = walk-passed 21 n (sym (before-all n _ all)) (omega arith)
+
+    pub second-told : second < n → columns-told ys ylift zs zlift n ≡ refused 22 second
+    second-told below = second-fails second first-done (walk-ended 22 second second-is below)
+
+    pub third-told : (third : ℕ) → third ≡ before-failing n (holds-at 23 ys ylift zs zlift n) → n ≤ second → third < n → columns-told ys ylift zs zlift n ≡ refused 23 third
+    third-told third third-is past below = third-asked first-done (walk-passed 22 second second-is past) ∙ walk-ended 23 third third-is below
+
+    pub none-told : (third : ℕ) → third ≡ before-failing n (holds-at 23 ys ylift zs zlift n) → n ≤ second → n ≤ third → columns-told ys ylift zs zlift n ≡ done
+    none-told third third-is past beyond = third-asked first-done (walk-passed 22 second second-is past) ∙ walk-passed 23 third third-is beyond
 
   pub columns-named : Named (columns-told ys ylift zs zlift n)
   unfolding columns-told column-told

@@ -1,14 +1,14 @@
 -- What the tests of a ranking's conditions tell, and what is shown where all hold: start, fall, and the rank in the front of a list.
 use Prim.Native.Nat.{ℕ, _+_, _<_}
 use mathlib.Core.Path.{_≡_}
-use mathlib.Core.Bool.{Bool, cond}
+use mathlib.Core.Bool.{Bool, true, cond}
 use mathlib.Core.List.{List, _++_}
 use lib.Dec.{eqb}
 use lib.IntN.{ℤ, pos, negℤ, _+ℤ_, _-ℤ_}
 use lib.ListN.{length, getD, drop}
 use lib.Signed.{ltZ}
 use Rattle.refusal.specs.Tests.{Told, done, refused, _then_}
-use Rattle.refusal.specs.Places.{told-each, told-once}
+use Rattle.refusal.specs.Places.{Throughout, told-each, told-once}
 use Rattle.theory.specs.Conditions.{rankingTold}
 use Rattle.theory.specs.Loops.{A, A′, Loop}
 use Rattle.theory.specs.Rankings.{Ranking, rank, start, fall}
@@ -31,6 +31,12 @@ holds-at number ys ylift zs zlift n j =
     cond (eqb number 21) (sameZ (nextIn ys ylift n j) (pos 0))
     (cond (eqb number 22) (sameZ (nowIn ys ylift j) (nowIn zs zlift j))
     (sameZ (nowIn zs zlift j +ℤ nextIn zs zlift n j) (pos 0)))
+
+-- all three hold at the columns before one
+abbrev pub HoldBefore : ℕ → List ℤ → ℤ → List ℤ → ℤ → ℕ → Type 0
+HoldBefore count ys ylift zs zlift n =
+    Throughout count
+    (λ j. (holds-at 21 ys ylift zs zlift n j ≡ true) × (holds-at 22 ys ylift zs zlift n j ≡ true) × (holds-at 23 ys ylift zs zlift n j ≡ true))
 
 -- what is told of one of them, and of all three
 unfoldable pub column-told : ℕ → List ℤ → ℤ → List ℤ → ℤ → ℕ → Told

@@ -3,16 +3,15 @@
 // a longer loop.
 ghost use mathlib.Core.Path.{_≡_};
 ghost use Prim.Native.Nat.{_+_, _*_, _≤_, _<_};
-ghost use lib.IntN.{pos, natAbs, negℤ, _-ℤ_};
+ghost use lib.IntN.{ℤ, pos, natAbs, negℤ, _-ℤ_};
 ghost use lib.ListN.{length, getD, drop};
-ghost use mathlib.Core.List.{_++_};
+ghost use mathlib.Core.List.{List, _++_};
 ghost use Rattle.refusal.specs.Faults.{fault-of};
-ghost use Rattle.refusal.specs.Places.{before-failing};
 ghost use Rattle.whole.specs.Sums.{tabulate};
 ghost use Rattle.judge_sums.specs.Places.{RowsIn, MultipliersIn, AllModest};
 ghost use Rattle.judge_sums.specs.Running.{CanGrow, Modest};
 ghost use Rattle.judge_conditions.specs.LoopHeld.{loop-held};
-ghost use Rattle.judge_ranking.specs.RankedBy.{nextIn, holds-at, columns-told, totals-told, ranked-of, rank-put, RankingBy};
+ghost use Rattle.judge_ranking.specs.RankedBy.{nextIn, holds-at, HoldBefore, columns-told, totals-told, ranked-of, rank-put, RankingBy};
 ghost use Rattle.judge_ranking.specs.RankingHeld.{ranking-held};
 use refusal::Fault;
 
@@ -32,65 +31,79 @@ pub fn unlifted(sums: &[i64], k: usize, lift: i64) -> i64
     sums[k] - lift
 }
 
-// Whether the condition of a number holds at column j, out of the lifted totals under Y and Z.
-fn holds_at(
-    number: usize,
-    ys: &[i64],
-    zs: &[i64],
-    n: usize,
-    j: usize,
-    ylift: i64,
-    zlift: i64,
-) -> bool
-    requires { ⌜ (2 * n ≤ length (now ys)) × (2 * n ≤ length (now zs)) × (n ≤ 16) × (j < n)
-        × AllModest (2 * n) (now ys) × AllModest (2 * n) (now zs) × Modest ylift × Modest zlift ⌝ }
-    ensures { λ r. ⌜ r ≡ holds-at number (now (ys .entry)) ylift (now (zs .entry)) zlift n j ⌝ }
-{
-    if number == 21 {
-        return unlifted(ys, n + j, ylift) == 0;
-    }
-    let za = unlifted(zs, j, zlift);
-    if number == 22 {
-        return unlifted(ys, j, ylift) == za;
-    }
-    za + unlifted(zs, n + j, zlift) == 0
+// Whether the first three conditions hold at one column.
+struct ColumnHolds {
+    first: bool,
+    second: bool,
+    third: bool,
 }
 
-// How many columns come before the first at which the condition of a number fails: n where it holds at all.
-fn first_failing(number: usize, ys: &[i64], zs: &[i64], n: usize, ylift: i64, zlift: i64) -> usize
+// The same at column j, out of the lifted totals under Y and Z.
+fn column_holds(ys: &[i64], zs: &[i64], n: usize, j: usize, ylift: i64, zlift: i64) -> ColumnHolds
+    requires { ⌜ (2 * n ≤ length (now ys)) × (2 * n ≤ length (now zs)) × (n ≤ 16) × (j < n)
+        × AllModest (2 * n) (now ys) × AllModest (2 * n) (now zs) × Modest ylift × Modest zlift ⌝ }
+    ensures { λ r. ⌜ (r .first ≡ holds-at 21 (now (ys .entry)) ylift (now (zs .entry)) zlift n j)
+        × (r .second ≡ holds-at 22 (now (ys .entry)) ylift (now (zs .entry)) zlift n j)
+        × (r .third ≡ holds-at 23 (now (ys .entry)) ylift (now (zs .entry)) zlift n j) ⌝ }
+{
+    let za = unlifted(zs, j, zlift);
+    let ya = unlifted(ys, j, ylift);
+    let za2 = unlifted(zs, n + j, zlift);
+    ColumnHolds {
+        first: unlifted(ys, n + j, ylift) == 0,
+        second: ya == za,
+        third: za + za2 == 0,
+    }
+}
+
+// How many columns come before the first at which one of the three fails: n where all hold.
+fn before_fault(ys: &[i64], zs: &[i64], n: usize, ylift: i64, zlift: i64) -> usize
     requires { ⌜ (2 * n ≤ length (now ys)) × (2 * n ≤ length (now zs)) × (n ≤ 16)
         × AllModest (2 * n) (now ys) × AllModest (2 * n) (now zs) × Modest ylift × Modest zlift ⌝ }
-    ensures { λ r. ⌜ r ≡ before-failing n (holds-at number (now (ys .entry)) ylift (now (zs .entry)) zlift n) ⌝ }
+    ensures { λ r. ⌜ (r ≤ n) × HoldBefore r (now (ys .entry)) ylift (now (zs .entry)) zlift n ⌝ }
 {
     for j in 0..n {
-        if !holds_at(number, ys, zs, n, j, ylift, zlift) {
+        let holds = column_holds(ys, zs, n, j, ylift, zlift);
+        if !holds.first {
+            return j;
+        }
+        if !holds.second {
+            return j;
+        }
+        if !holds.third {
             return j;
         }
     }
     n
 }
 
-// The first three conditions, each at all columns before the next.
-fn columns_fault(ys: &[i64], zs: &[i64], n: usize, ylift: i64, zlift: i64) -> Fault
+// The first three conditions, each at all columns before the next, where they hold at the columns before one. The first column that
+// fails YA' = 0 ends the walk; the first that fail the other two are remembered.
+fn fault_from(ys: &[i64], zs: &[i64], n: usize, from: usize, ylift: i64, zlift: i64) -> Fault
     requires { ⌜ (2 * n ≤ length (now ys)) × (2 * n ≤ length (now zs)) × (n ≤ 16)
-        × AllModest (2 * n) (now ys) × AllModest (2 * n) (now zs) × Modest ylift × Modest zlift ⌝ }
+        × AllModest (2 * n) (now ys) × AllModest (2 * n) (now zs) × Modest ylift × Modest zlift
+        × (from ≤ n) × HoldBefore from (now ys) ylift (now zs) zlift n ⌝ }
     ensures { λ r. ⌜ r ≡ fault-of (columns-told (now (ys .entry)) ylift (now (zs .entry)) zlift n) ⌝ }
 {
-    let first = first_failing(21, ys, zs, n, ylift, zlift);
-    if first < n {
-        return Fault {
-            number: 21,
-            place: first,
-        };
+    let mut second = from;
+    let mut third = from;
+    for j in from..n {
+        let column = column_holds(ys, zs, n, j, ylift, zlift);
+        if !column.first {
+            return Fault {
+                number: 21,
+                place: j,
+            };
+        }
+        second = judge_conditions::remember(second, j, column.second);
+        third = judge_conditions::remember(third, j, column.third);
     }
-    let second = first_failing(22, ys, zs, n, ylift, zlift);
     if second < n {
         return Fault {
             number: 22,
             place: second,
         };
     }
-    let third = first_failing(23, ys, zs, n, ylift, zlift);
     if third < n {
         return Fault {
             number: 23,
@@ -101,6 +114,23 @@ fn columns_fault(ys: &[i64], zs: &[i64], n: usize, ylift: i64, zlift: i64) -> Fa
         number: 0,
         place: 0,
     }
+}
+
+// The first three conditions, each at all columns before the next. One walk suffices where all hold; where one fails, the walk that tells
+// which goes on from there.
+pub fn columns_fault(ys: &[i64], zs: &[i64], n: usize, ylift: i64, zlift: i64) -> Fault
+    requires { ⌜ (2 * n ≤ length (now ys)) × (2 * n ≤ length (now zs)) × (n ≤ 16)
+        × AllModest (2 * n) (now ys) × AllModest (2 * n) (now zs) × Modest ylift × Modest zlift ⌝ }
+    ensures { λ r. ⌜ r ≡ fault-of (columns-told (now (ys .entry)) ylift (now (zs .entry)) zlift n) ⌝ }
+{
+    let sound = before_fault(ys, zs, n, ylift, zlift);
+    if n <= sound {
+        return Fault {
+            number: 0,
+            place: 0,
+        };
+    }
+    fault_from(ys, zs, n, sound, ylift, zlift)
 }
 
 // Puts the rank, ZA', into the front of a list, out of the lifted totals under Z.
@@ -125,25 +155,24 @@ pub fn fails(number: usize, place: usize) -> Ranked
     }
 }
 
-// The four conditions, out of the lifted totals under Y and Z and the totals over b. Where all hold the rank is put.
+// The fourth condition, after what the first three tell, out of the lifted totals under Z and the totals over b. Where all hold the
+// rank is put.
 pub fn by_totals(
-    ys: &[i64],
+    fault: Fault,
     zs: &[i64],
     n: usize,
-    ylift: i64,
     zlift: i64,
     yb: i64,
     zb: i64,
     rank: &mut [i64],
 ) -> Ranked
-    requires { ⌜ (2 * n ≤ length (now ys)) × (2 * n ≤ length (now zs)) × (n ≤ 16)
-        × AllModest (2 * n) (now ys) × AllModest (2 * n) (now zs) × Modest ylift × Modest zlift
+    requires { ⌜ (2 * n ≤ length (now zs)) × (n ≤ 16) × AllModest (2 * n) (now zs) × Modest zlift
         × CanGrow yb × CanGrow zb × (n ≤ length (now rank)) ⌝ }
-    ensures { λ r. ⌜ (r ≡ ranked-of (totals-told (now (ys .entry)) ylift (now (zs .entry)) zlift n zb) (negℤ yb) (negℤ zb))
-        × (now (rank .exit) ≡ rank-put (totals-told (now (ys .entry)) ylift (now (zs .entry)) zlift n zb)
-        (tabulate n (nextIn (now (zs .entry)) zlift n)) (now (rank .entry))) ⌝ }
+    ensures { λ r. ⌜ ((ys : List ℤ) (ylift : ℤ) → fault ≡ fault-of (columns-told ys ylift (now (zs .entry)) zlift n)
+        → (r ≡ ranked-of (totals-told ys ylift (now (zs .entry)) zlift n zb) (negℤ yb) (negℤ zb))
+        × (now (rank .exit) ≡ rank-put (totals-told ys ylift (now (zs .entry)) zlift n zb)
+        (tabulate n (nextIn (now (zs .entry)) zlift n)) (now (rank .entry)))) ⌝ }
 {
-    let fault = columns_fault(ys, zs, n, ylift, zlift);
     if fault.number != 0 {
         return fails(fault.number, fault.place);
     }
@@ -174,12 +203,19 @@ pub fn ranking(
         (now (rank .entry)) (now (rank .exit)) ⌝ }
 {
     let z = 6 + 2 * m;
-    let yb = judge_sums::right_of(rows, start, n, certificate, 6, m);
-    let zb = judge_sums::right_of(rows, start, n, certificate, z, m);
-    let ylift = judge_sums::lift_of(certificate, 6, m);
-    let zlift = judge_sums::lift_of(certificate, z, m);
     let mut ys = [0i64; 32];
     let mut zs = [0i64; 32];
-    judge_sums::add_rows(&mut ys, &mut zs, rows, start, n, certificate, 6, z, m);
-    by_totals(&ys, &zs, n, ylift.sum, zlift.sum, yb.sum, zb.sum, rank)
+    let beside = judge_sums::add_rows(&mut ys, &mut zs, rows, start, n, certificate, 6, z, m);
+    let under_y = beside.y;
+    let under_z = beside.z;
+    let fault = columns_fault(&ys, &zs, n, under_y.lift, under_z.lift);
+    by_totals(
+        fault,
+        &zs,
+        n,
+        under_z.lift,
+        under_y.right,
+        under_z.right,
+        rank,
+    )
 }

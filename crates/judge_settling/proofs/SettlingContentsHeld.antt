@@ -1,6 +1,6 @@
 -- Sound records hold, by places, the loop and the settling of crate `verdict_settling`; so what the conditions' code tells of the places it
 -- tells of the records.
-use mathlib.Core.Path.{_≡_, sym, _∙_}
+use mathlib.Core.Path.{_≡_, sym}
 use Prim.Native.Nat.{ℕ, suc}
 use mathlib.Core.List.{List}
 use native.Mathlib.Numerals.{add-one}

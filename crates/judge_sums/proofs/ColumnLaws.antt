@@ -1,4 +1,4 @@
--- What the loops over rows share: a row lies within the bytes, and a column's totals begin and take one row more.
+-- What the loops over rows share: a row lies within the bytes, and a column's totals, and those beside the columns, begin and take one row more.
 use Prim.Native.Nat.{ℕ, _+_, _*_, _≤_, _<_}
 use mathlib.Core.Path.{_≡_}
 use mathlib.Core.List.{List}
@@ -7,7 +7,8 @@ use native.Mathlib.Omega.{arith}
 use lib.IntN.{ℤ, pos}
 use lib.ListN.{length}
 use Rattle.endian.specs.Numbers.{littleAt}
-use Rattle.judge_sums.specs.Places.{entryAt, multiplierAt, rowPlace, nowTerm, nextTerm, RowsIn, Visited, ColumnOf, mostEntry}
+use Rattle.judge_sums.specs.Places.{entryAt, multiplierAt, rowPlace, nowTerm, nextTerm, rightTerm, liftTerm, RowsIn, Visited, ColumnOf, Sided, BesideOf, mostEntry, mostRight}
+use Rattle.judge_sums.specs.Running.{CanGrow}
 use Rattle.judge_sums.proofs.RunningLaws.{sum-none, sum-more, adds-nothing}
 
 pub row-inside : (bytes : List ℕ) (start n count i : ℕ) → RowsIn bytes start n count → i < count → rowPlace start n (i + 1) ≤ length bytes
@@ -36,3 +37,27 @@ module _ (multipliers : List ℕ) (place : ℕ) (rows : List ℕ) (start n j : �
         now-sum = sum-more mostEntry (nowTerm multipliers place rows start n j) i (h .now-sum) (rw (read, here) at (more .now-adds));
         next-sum = sum-more mostEntry (nextTerm multipliers place rows start n j) i (h .next-sum) (rw (read, here) at (more .next-adds));
       }
+
+-- what a list of multipliers comes to beside the columns
+module _ (multipliers : List ℕ) (place : ℕ) (rows : List ℕ) (start n : ℕ) where
+  pub beside-none : {lift right : ℤ} → (lift ≡ pos 0) × (right ≡ pos 0) → BesideOf multipliers place rows start n 0 lift right
+  beside-none h =
+      record {
+        lift-sum = sum-none mostEntry (liftTerm multipliers place) (h .0);
+        right-sum = sum-none mostRight (rightTerm multipliers place rows start n) (h .1);
+      }
+
+  pub beside-more : (i multiplier at : ℕ) {lift right lift′ right′ : ℤ} → BesideOf multipliers place rows start n i lift right
+      → multiplier ≡ littleAt 2 multipliers (place + 2 * i) → at ≡ rowPlace start n i
+      → Sided multiplier rows (at + 4 * n) lift right lift′ right′
+      → BesideOf multipliers place rows start n (i + 1) lift′ right′
+  unfolding multiplierAt liftTerm rightTerm
+  beside-more i multiplier at h read here more =
+      record {
+        lift-sum = sum-more mostEntry (liftTerm multipliers place) i (h .lift-sum) (rw read at (more .lift-adds));
+        right-sum = sum-more mostRight (rightTerm multipliers place rows start n) i (h .right-sum) (rw (read, here) at (more .right-adds));
+      }
+
+  -- both can take a row more
+  pub beside-grows : (count : ℕ) {lift right : ℤ} → count < 16384 → BesideOf multipliers place rows start n count lift right → CanGrow lift × CanGrow right
+  beside-grows count few h = (omega (arith, h .lift-sum .small), omega (arith, h .right-sum .small))

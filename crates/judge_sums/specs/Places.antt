@@ -116,3 +116,15 @@ pub record SumsOf (multipliers : List ℕ) (place : ℕ) (rows : List ℕ) (star
   pub each : (k : ℕ) → k < 2 * n
       → SumOf count mostEntry (entryTerm multipliers place rows start n k)
       (getD sums k (pos 0) -ℤ total count (liftTerm multipliers place))
+
+-- ---- what one list of multipliers comes to beside the columns: `lift` over the lifts, `right` over the right sides
+
+-- one row more, whose right side stands at a place
+pub record Sided (multiplier : ℕ) (rows : List ℕ) (place : ℕ) (lift right lift′ right′ : ℤ) : Type 0 where
+  pub lift-adds : Adds mostEntry (pos multiplier *ℤ pos 32768) lift lift′
+  pub right-adds : Adds mostRight (pos multiplier *ℤ rightAt rows place) right right′
+
+-- `count` rows
+pub record BesideOf (multipliers : List ℕ) (place : ℕ) (rows : List ℕ) (start n count : ℕ) (lift right : ℤ) : Type 0 where
+  pub lift-sum : SumOf count mostEntry (liftTerm multipliers place) lift
+  pub right-sum : SumOf count mostRight (rightTerm multipliers place rows start n) right

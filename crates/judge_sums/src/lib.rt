@@ -10,7 +10,7 @@ ghost use Prim.Native.Nat.{_+_, _*_, _≤_, _<_};
 ghost use mathlib.Core.Path.{_≡_};
 ghost use lib.IntN.{pos, _*ℤ_};
 ghost use lib.ListN.{length};
-ghost use Rattle.judge_sums.specs.Places.{entryAt, rightAt, rightTerm, liftTerm, Lifts, RowAdded, RestStays, AllGrow, AllNone, SumsOf, RowsIn, MultipliersIn, Visited, ColumnOf, mostEntry, mostRight};
+ghost use Rattle.judge_sums.specs.Places.{entryAt, rightAt, rightTerm, Lifts, RowAdded, RestStays, AllGrow, AllNone, SumsOf, RowsIn, MultipliersIn, Visited, ColumnOf, Sided, BesideOf, mostEntry, mostRight};
 ghost use Rattle.judge_sums.specs.Running.{CanGrow, Adds, SumOf};
 use whole::Total;
 
@@ -107,7 +107,7 @@ pub fn add_lifted(sum: i64, multiplier: usize, rows: &[u8], place: usize) -> i64
 
 // One row more for two lists of totals: the row's entries are read in one visit, several at once,
 // and not at all where neither list gives the row weight.
-fn add_row(
+pub fn add_row(
     ys: &mut [i64],
     zs: &mut [i64],
     y: usize,
@@ -130,8 +130,45 @@ fn add_row(
     }
 }
 
-// The totals of all columns under two lists of multipliers, in one visit of each row. The lists of
-// totals start as zeros; every entry is lifted, as `lift_of` tells. Past the columns they stay.
+// What one list of multipliers comes to beside the columns: the lifts, which each column's total has
+// too much, and the right sides.
+pub struct Beside {
+    pub lift: i64,
+    pub right: i64,
+}
+
+impl Beside {
+    fn new() -> Beside
+        ensures { λ r. ⌜ (r .lift ≡ pos 0) × (r .right ≡ pos 0) ⌝ }
+    {
+        Beside { lift: 0, right: 0 }
+    }
+
+    // One row more: its lift, and its right side at a place, each times the multiplier.
+    fn visit(self, multiplier: usize, rows: &[u8], place: usize) -> Beside
+        requires { ⌜ CanGrow (self .lift) × CanGrow (self .right) × (multiplier < 65536) × (place + 4 ≤ length (now rows)) ⌝ }
+        ensures { λ r. ⌜ Sided multiplier (now (rows .entry)) place (self .lift) (self .right) (r .lift) (r .right) ⌝ }
+    {
+        let lift = Total { sum: self.lift };
+        let right = Total { sum: self.right };
+        let lifted = lift.plus(multiplier as i64, 32768);
+        let reached = add_right(right, multiplier, rows, place);
+        Beside {
+            lift: lifted.sum,
+            right: reached.sum,
+        }
+    }
+}
+
+// The same under two lists of multipliers.
+pub struct Besides {
+    pub y: Beside,
+    pub z: Beside,
+}
+
+// The totals under two lists of multipliers, in one visit of each row: of all columns, and what they
+// come to beside them. The lists of totals start as zeros; every entry is lifted. Past the columns
+// they stay.
 pub fn add_rows(
     ys: &mut [i64],
     zs: &mut [i64],
@@ -142,34 +179,32 @@ pub fn add_rows(
     y: usize,
     z: usize,
     count: usize,
-)
+) -> Besides
     requires { ⌜ (2 * n ≤ length (now ys)) × (2 * n ≤ length (now zs)) × AllNone (2 * n) (now ys) × AllNone (2 * n) (now zs)
         × RowsIn (now rows) start n count × MultipliersIn (now multipliers) y count × MultipliersIn (now multipliers) z count ⌝ }
-    ensures { λ _. ⌜ SumsOf (now (multipliers .entry)) y (now (rows .entry)) start n count (now (ys .exit))
+    ensures { λ r. ⌜ SumsOf (now (multipliers .entry)) y (now (rows .entry)) start n count (now (ys .exit))
         × SumsOf (now (multipliers .entry)) z (now (rows .entry)) start n count (now (zs .exit))
-        × RestStays (2 * n) (now (ys .entry)) (now (ys .exit)) × RestStays (2 * n) (now (zs .entry)) (now (zs .exit)) ⌝ }
+        × RestStays (2 * n) (now (ys .entry)) (now (ys .exit)) × RestStays (2 * n) (now (zs .entry)) (now (zs .exit))
+        × BesideOf (now (multipliers .entry)) y (now (rows .entry)) start n count (r .y .lift) (r .y .right)
+        × BesideOf (now (multipliers .entry)) z (now (rows .entry)) start n count (r .z .lift) (r .z .right) ⌝ }
 {
     let stride = 4 * n + 4;
+    let right = 4 * n;
+    let mut beside_y = Beside::new();
+    let mut beside_z = Beside::new();
     let mut at = start;
     for i in 0..count {
         let under_y = endian::u16_at(multipliers, y + 2 * i);
         let under_z = endian::u16_at(multipliers, z + 2 * i);
         add_row(ys, zs, under_y, under_z, rows, at, 2 * n);
+        beside_y = beside_y.visit(under_y, rows, at + right);
+        beside_z = beside_z.visit(under_z, rows, at + right);
         at += stride;
     }
-}
-
-// The total of the lifts under one list of multipliers: what each column's total has too much.
-pub fn lift_of(multipliers: &[u8], place: usize, count: usize) -> Total
-    requires { ⌜ MultipliersIn (now multipliers) place count × (count < 16384) ⌝ }
-    ensures { λ r. ⌜ SumOf count mostEntry (liftTerm (now (multipliers .entry)) place) (r .sum) ⌝ }
-{
-    let mut total = Total::new();
-    for i in 0..count {
-        let multiplier = endian::u16_at(multipliers, place + 2 * i);
-        total = total.plus(multiplier as i64, 32768);
+    Besides {
+        y: beside_y,
+        z: beside_z,
     }
-    total
 }
 
 // The total of the right sides under one list of multipliers.

@@ -1,2 +1,2 @@
--- one row more for the totals beside the columns'
+-- the totals under one list of multipliers: one row more, and all rows
 pub mod Visits

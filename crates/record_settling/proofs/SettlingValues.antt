@@ -1,10 +1,10 @@
 -- The values of a settling as the code walks them: g and t are a linear part, k, E, Y and Z one of weights; and the bytes they take.
 use mathlib.Core.Path.{_≡_, sym, ap, _∙_}
 use Prim.Native.Nat.{ℕ, suc, _+_, _*_}
-use mathlib.Core.List.{List, [], _∷_, _++_, append-assoc}
+use mathlib.Core.List.{[], _∷_, _++_, append-assoc}
 use native.Mathlib.Omega.{arith}
 use lib.ListN.{replicate}
-use Rattle.record.specs.Fields.{Field, widths}
+use Rattle.record.specs.Fields.{widths}
 use Rattle.record.specs.Layouts.{entry, right-side, scale, multiplier}
 use Rattle.record.proofs.FieldLaws.{widths-append}
 use Rattle.record_fields.specs.Runs.{linear, weights}

@@ -9,8 +9,7 @@ use verdict::Verdict;
 ghost use mathlib.Core.Path.{_≡_};
 ghost use Rattle.record.specs.Readers.{loop-reader, certificate-reader, reads, fills};
 ghost use Rattle.record.specs.Writers.{writer, writes, room-after};
-ghost use Rattle.verdict.specs.Bounding.{bounds, bound-of};
-ghost use Rattle.verdict_paths.specs.JudgingByLoop.{judged, rank-judged};
+ghost use Rattle.verdict_settling.specs.AnswersByKind.{judged-by-kind, rank-by-kind, bounded-by-kind};
 ghost use Rattle.sheet_text.specs.Sheets.{sheet-answers, room-after as text-after};
 ghost use Rattle.rip.specs.Flat.{flat-reading, flat-writing, told, flat-verdict, flat-bounded};
 
@@ -35,7 +34,8 @@ pub struct FlatWriting {
     pub written: usize,
 }
 
-// The answer of judging: the outcome is 0 nothing, 2 ranking, 3 exclusion, 4 lasso; the grade 0 none, 1 whole, 2 fractions.
+// The answer of judging: the outcome is 0 nothing, 2 ranking, 3 exclusion, 4 lasso, 6 lexicographic, 8 settling; the grade 0 none,
+// 1 whole, 2 fractions.
 #[repr(C)]
 pub struct FlatVerdict {
     pub number: usize,
@@ -113,6 +113,7 @@ fn flat_verdict(v: Verdict) -> FlatVerdict
         },
         Outcome::Lasso { start, fall } => flat_told(v, 4, start, fall, 0),
         Outcome::Lexicographic => flat_told(v, 6, 0, 0, 0),
+        Outcome::Settling { start, fall } => flat_told(v, 8, start, fall, 0),
     }
 }
 
@@ -181,8 +182,8 @@ pub extern "C" fn cushiedoo_judge(
     certificate: &[u8],
     rank: &mut [i64],
 ) -> FlatVerdict
-    ensures { λ r. ⌜ r ≡ flat-verdict (judged (now (loopbytes .entry)) (now (certificate .entry)) (now (rank .entry))) ⌝ }
-    ensures { λ _. ⌜ now (rank .exit) ≡ rank-judged (now (loopbytes .entry)) (now (certificate .entry)) (now (rank .entry)) ⌝ }
+    ensures { λ r. ⌜ r ≡ flat-verdict (judged-by-kind (now (loopbytes .entry)) (now (certificate .entry)) (now (rank .entry))) ⌝ }
+    ensures { λ _. ⌜ now (rank .exit) ≡ rank-by-kind (now (loopbytes .entry)) (now (certificate .entry)) (now (rank .entry)) ⌝ }
 {
     flat_verdict(judge_by_kind::judge(loopbytes, certificate, rank))
 }
@@ -194,9 +195,9 @@ pub extern "C" fn cushiedoo_bound(
     certificate: &[u8],
     state: &[i64],
 ) -> FlatBounded
-    ensures { λ r. ⌜ r ≡ flat-bounded (bounds (bound-of (now (loopbytes .entry)) (now (certificate .entry)) (now (state .entry)))) ⌝ }
+    ensures { λ r. ⌜ r ≡ flat-bounded (bounded-by-kind (now (loopbytes .entry)) (now (certificate .entry)) (now (state .entry))) ⌝ }
 {
-    flat_bounded(judge_bound::bound(loopbytes, certificate, state))
+    flat_bounded(bound_by_kind::bound(loopbytes, certificate, state))
 }
 
 // ---- the sheet

@@ -10,7 +10,7 @@ use Rattle.decimal.specs.Decimals.{decimal, signed-decimal}
 use Rattle.verdict.specs.declared.Grade.{Grade}
 use Rattle.verdict.specs.declared.Grade.the-variants.{Whole, Fractions}
 use Rattle.verdict.specs.declared.Outcome.{Outcome}
-use Rattle.verdict.specs.declared.Outcome.the-variants.{Nothing, Ranking, Exclusion, Lasso, Lexicographic}
+use Rattle.verdict.specs.declared.Outcome.the-variants.{Nothing, Ranking, Exclusion, Lasso, Lexicographic, Settling}
 use Rattle.verdict.specs.declared.Verdict.{Verdict}
 use Rattle.sheet_lines.specs.VerdictLines.{rank-words, outcome-words, verdict-line}
 use Rattle.sheet_lines.specs.Words.{bytes, line, run}
@@ -122,6 +122,11 @@ module _ (outcome : Outcome) (number place : ℕ) (r : List ℤ) where
   unfolding outcome-words
   lexicographic-line e = rw e
 
+  pub settling-line : (start fall : ℤ) → outcome ≡ Settling start fall
+      → line (outcome-words outcome number place r) ≡ line (bytes "refused" ∷ decimal number ∷ decimal place ∷ [])
+  unfolding outcome-words
+  settling-line start fall e = rw e
+
   pub ranking-line : (start fall : ℤ) → outcome ≡ Ranking start fall → line (outcome-words outcome number place r) ≡ rank-word ++ line (rank-words r start fall)
   unfolding outcome-words bytes
   ranking-line start fall e = rw e (line-ranked (bytes "rank") r start fall)
@@ -150,6 +155,7 @@ line-count count v r = by-outcome (v .outcome)
     by-outcome (Exclusion Fractions) = line-next (decimal count) _ _
     by-outcome (Lasso start fall) = line-next (decimal count) _ _
     by-outcome Lexicographic = line-next (decimal count) _ _
+    by-outcome (Settling start fall) = line-next (decimal count) _ _
 
 pub length-count : (count : ℕ) (v : Verdict) (r : List ℤ) → length (verdict-line count v r) ≡ length (decimal count) + 1 + length (line (outcome-words (v .outcome) (v .number) (v .place) r))
 length-count count v r = rw (line-count count v r) (simp length-append)

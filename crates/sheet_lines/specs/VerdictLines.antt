@@ -6,7 +6,7 @@ use lib.IntN.{ℤ}
 use Rattle.decimal.specs.Decimals.{decimal, signed-decimal}
 use Rattle.verdict.specs.declared.Grade.the-variants.{Whole, Fractions}
 use Rattle.verdict.specs.declared.Outcome.{Outcome}
-use Rattle.verdict.specs.declared.Outcome.the-variants.{Nothing, Ranking, Exclusion, Lasso, Lexicographic}
+use Rattle.verdict.specs.declared.Outcome.the-variants.{Nothing, Ranking, Exclusion, Lasso, Lexicographic, Settling}
 use Rattle.verdict.specs.declared.Verdict.{Verdict}
 use Rattle.sheet_lines.specs.Words.{bytes, line}
 
@@ -14,8 +14,8 @@ use Rattle.sheet_lines.specs.Words.{bytes, line}
 unfoldable pub rank-words : List ℤ → ℤ → ℤ → List (List ℕ)
 rank-words r start fall = map signed-decimal r ++ (bytes "from" ∷ signed-decimal start ∷ bytes "down" ∷ signed-decimal fall ∷ [])
 
--- what follows the count, by the outcome; a refusal shows nothing but its number and place. No line is laid down for kind 6: the sheet
--- refuses it, so its outcome never comes here, and it has a refusal's words
+-- what follows the count, by the outcome; a refusal shows nothing but its number and place. No line is laid down for kinds 6 and 8: the
+-- sheet refuses them, so their outcomes never come here, and they have a refusal's words
 unfoldable pub outcome-words : Outcome → ℕ → ℕ → List ℤ → List (List ℕ)
 outcome-words (Ranking start fall) number place r = bytes "rank" ∷ rank-words r start fall
 outcome-words (Lasso start fall) number place r = bytes "lasso" ∷ rank-words r start fall
@@ -23,6 +23,7 @@ outcome-words (Exclusion Whole) number place r = bytes "excluded" ∷ bytes "who
 outcome-words (Exclusion Fractions) number place r = bytes "excluded" ∷ bytes "fractions" ∷ []
 outcome-words Nothing number place r = bytes "refused" ∷ decimal number ∷ decimal place ∷ []
 outcome-words Lexicographic number place r = bytes "refused" ∷ decimal number ∷ decimal place ∷ []
+outcome-words (Settling start fall) number place r = bytes "refused" ∷ decimal number ∷ decimal place ∷ []
 
 -- the line of a verdict, whose rank is r
 unfoldable pub verdict-line : ℕ → Verdict → List ℤ → List ℕ

@@ -12,11 +12,11 @@ use Rattle.refusal.specs.Tests.{refused}
 use Rattle.verdict.specs.Magnitudes.{column-most, right-sum-most}
 use Rattle.verdict.specs.declared.Grade.the-variants.{Whole, Fractions}
 use Rattle.verdict.specs.declared.Outcome.{Outcome}
-use Rattle.verdict.specs.declared.Outcome.the-variants.{Nothing, Ranking, Exclusion, Lasso, Lexicographic}
+use Rattle.verdict.specs.declared.Outcome.the-variants.{Nothing, Ranking, Exclusion, Lasso, Lexicographic, Settling}
 use Rattle.verdict.specs.declared.Verdict.{Verdict}
 use Rattle.sheet_lines.specs.Words.{bytes, line, run}
 use Rattle.sheet_lines.specs.VerdictLines.{outcome-words, verdict-line}
-use Rattle.sheet_lines.proofs.LineLaws.{entries, nothing-line, lexicographic-line, ranking-line, lasso-line, whole-exclusion-line, fractions-exclusion-line, line-refused, length-pair, length-rank, length-count}
+use Rattle.sheet_lines.proofs.LineLaws.{entries, nothing-line, lexicographic-line, settling-line, ranking-line, lasso-line, whole-exclusion-line, fractions-exclusion-line, line-refused, length-pair, length-rank, length-count}
 
 -- ---- the line of a verdict whose numbers are small
 
@@ -37,6 +37,7 @@ Small-verdict (Ranking start fall) number place r = Small-rank r start fall
 Small-verdict (Exclusion grade) number place r = Unit {0}
 Small-verdict (Lasso start fall) number place r = Small-rank r start fall
 Small-verdict Lexicographic number place r = Small-refusal number place
+Small-verdict (Settling start fall) number place r = Small-refusal number place
 
 entries-size : (r : List ℤ) → Within column-most r → length (entries r) ≤ 14 * length r
 unfolding run bytes
@@ -65,6 +66,7 @@ outcome-size (Exclusion Whole) number place r small = rw (whole-exclusion-line (
 outcome-size (Exclusion Fractions) number place r small = rw (fractions-exclusion-line (Exclusion Fractions) number place r Fractions refl refl) (omega arith)
 outcome-size (Lasso start fall) number place r small = rw (lasso-line (Lasso start fall) number place r start fall refl) (omega (arith, length-rank r start fall, rank-size r start fall small))
 outcome-size Lexicographic number place r small = rw (lexicographic-line Lexicographic number place r refl) (omega (arith, refusal-size number place small))
+outcome-size (Settling start fall) number place r small = rw (settling-line (Settling start fall) number place r start fall refl) (omega (arith, refusal-size number place small))
 
 pub verdict-size : (count : ℕ) (verdict : Verdict) (r : List ℤ) → count < 10 ^ 5 → Small-verdict (verdict .outcome) (verdict .number) (verdict .place) r
     → length (verdict-line count verdict r) ≤ 282

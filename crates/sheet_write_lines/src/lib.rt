@@ -120,6 +120,7 @@ fn put_verdict(text: &mut [u8], place: usize, v: Verdict, rank: &[i64]) -> usize
         },
         Outcome::Lasso { start, fall } => put_rank(text, place, b"lasso ", rank, start, fall),
         Outcome::Lexicographic => put_refusal(text, place, v.number, v.place),
+        Outcome::Settling { .. } => put_refusal(text, place, v.number, v.place),
     }
 }
 

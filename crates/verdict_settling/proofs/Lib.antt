@@ -16,3 +16,7 @@ pub mod SettlingReadBack
 pub mod SettlingInValues
 -- the promises, said of samples' bytes
 pub mod SettlingSamples
+-- the edges
+pub mod SettlingEdges
+-- wrong judges
+pub mod WrongSettlingJudges

@@ -10,14 +10,13 @@ use native.Mathlib.Omega.{arith}
 use lib.IntN.{ℤ}
 use lib.ListN.{drop}
 use borrow.Author.Tests.{leb-true, le-leb}
-use Rattle.refusal.specs.Tests.{done, refused, first, number}
+use Rattle.refusal.specs.Tests.{done, first, number}
 use Rattle.refusal.proofs.TestLaws.{passes-done, done-passes, zero-done, avoids, number-avoided}
 use Rattle.record.specs.Readers.{sound}
 use Rattle.record_paths.specs.PathFields.{bytes-alone, is-kind, is-long, fields-fit}
 use Rattle.record_settling.specs.SettlingRecords.{sound-settling}
 use Rattle.theory.specs.Loops.{Loop}
 use Rattle.theory.specs.Rankings.{rank, start, fall}
-use Rattle.theory_settling.specs.SettlingConditions.{settlingTold}
 use Rattle.theory_settling.specs.SettlingFails.{SettlingFails, fails-61, fails-62, fails-63, fails-ranked}
 use Rattle.theory_settling.specs.Settlings.{Settling, SettlingHolds, longer, settling-bound}
 use Rattle.theory_settling.proofs.SettlingDecisions.{settling-decided, told-exactly-settling}
@@ -26,7 +25,7 @@ use Rattle.verdict.specs.Bounding.{bounded}
 use Rattle.verdict.specs.Contents.{loop-in}
 use Rattle.verdict.specs.Judging.{ranks}
 use Rattle.verdict.specs.Pairs.{loop-record}
-use Rattle.verdict.specs.Stages.{agreed, said, shows, verdict-of}
+use Rattle.verdict.specs.Stages.{said, shows, verdict-of}
 use Rattle.verdict.specs.StateTests.{Given-state, state-tests}
 use Rattle.verdict.specs.declared.Outcome.{Outcome}
 use Rattle.verdict.specs.declared.Outcome.the-variants as Outcomes

@@ -5,7 +5,7 @@
 use mathlib.Core.Path.{_≡_, refl, sym, ap, _∙_}
 use Prim.Native.Nat.{ℕ, _≤_}
 use mathlib.Core.Bool.{true, false, false≢true}
-use mathlib.Core.List.{List, [], _++_}
+use mathlib.Core.List.{List, []}
 use native.Mathlib.Omega.{arith}
 use lib.Dec.{eqb}
 use lib.IntN.{ℤ}
@@ -16,20 +16,20 @@ use Rattle.endian.specs.Numbers.{littleAt}
 use Rattle.refusal.specs.Tests.{done, refused, first}
 use Rattle.refusal.proofs.TestLaws.{either, failed, first-then}
 use Rattle.record.specs.Layouts.{Kind, loop, ranking, exclusion, lasso, other, kindOf, is-loop}
-use Rattle.record.specs.Readers.{stated-length, kind-number, kind, framing, sound}
+use Rattle.record.specs.Readers.{kind-number, kind, framing, sound}
 use Rattle.record_paths.specs.PathFields.{bytes-alone}
 use Rattle.record_paths.specs.PathLoops.{sound-paths}
 use Rattle.record_paths.proofs.PathsSound.{paths-sound}
 use Rattle.theory.specs.Loops.{Run, Endless}
 use Rattle.theory.specs.Rankings.{rank, start, fall, bound}
-use Rattle.theory_settling.specs.Settlings.{SettlingHolds, SettlingPromise, Settled, longer, unsettled-steps, settling-bound}
+use Rattle.theory_settling.specs.Settlings.{SettlingHolds, SettlingPromise, Settled, longer, unsettled-steps}
 use Rattle.theory_settling.proofs.SettlingTheorems.{settling-promise}
 use Rattle.verdict.specs.Bounding.{Bounding, bounding, bounded, bounds, bound-of}
 use Rattle.verdict.specs.Claims.{ranking-claim, exclusion-claim, lasso-claim, no-claim}
 use Rattle.verdict.specs.Contents.{loop-in}
-use Rattle.verdict.specs.Judging.{Judging, judging, judges, judge-of}
+use Rattle.verdict.specs.Judging.{Judging, judging, judges}
 use Rattle.verdict.specs.Pairs.{Pair, loop-record, claim, outcome-of}
-use Rattle.verdict.specs.Stages.{Said, agreed, refusal, said, shows, refusal-of, verdict-of}
+use Rattle.verdict.specs.Stages.{Said, agreed, refusal, said, refusal-of, verdict-of}
 use Rattle.verdict.specs.declared.Bounded.{Bounded}
 use Rattle.verdict.specs.declared.Outcome.{Outcome}
 use Rattle.verdict.specs.declared.Outcome.the-variants as Outcomes
@@ -43,11 +43,11 @@ use Rattle.whole.proofs.Tables.{length-tabulate}
 use Rattle.verdict_settling.specs.AnswersByKind.{of-settling, settles, pair-of, judging-of, bounding-of}
 use Rattle.verdict_settling.specs.AnswersByKind.{judged-by-kind, rank-by-kind, bounded-by-kind}
 use Rattle.verdict_settling.specs.SettlingJudging.{Settling-pair, variables-of, loop-of, settling-of, settling-rank}
-use Rattle.verdict_settling.specs.SettlingJudging.{Settling-judging, settling-judges, settling-rank-after}
+use Rattle.verdict_settling.specs.SettlingJudging.{Settling-judging, settling-judges}
 use Rattle.verdict_settling.specs.SettlingJudging.{Settling-bounding, settling-bounding, settling-bounds}
-use Rattle.verdict_settling.proofs.SettlingAccepted.{Settling-sound, settling-accepted-exactly-when, settling-bounded-exactly-when, shown}
+use Rattle.verdict_settling.proofs.SettlingAccepted.{Settling-sound, settling-accepted-exactly-when, settling-bounded-exactly-when}
 use Rattle.verdict_settling.proofs.SettlingAccepted.{settling-answers, settling-bound-is, refused-settling, refused-settling-bound}
-use Rattle.verdict_settling.proofs.SettlingBridges.{settles-says, judged-settling, judged-as-before, bounded-settling, bounded-as-before}
+use Rattle.verdict_settling.proofs.SettlingBridges.{judged-settling, judged-as-before, bounded-settling, bounded-as-before}
 use Rattle.verdict_settling.proofs.SettlingBridges.{paths-no-settles}
 use Rattle.verdict_settling.proofs.SettlingInRange.{sound-nonneg, sound-scale}
 

@@ -2,15 +2,14 @@
 -- than 6 bytes, is refused alike whether it is taken for a settling or not, in judging and in bound, whatever the loop. So whoever looks at the
 -- kind first and whoever tests the length first answer the same.
 use mathlib.Core.Path.{_≡_, refl, sym, _∙_}
-use Prim.Native.Nat.{ℕ, _+_, _≤_, _<_}
-use mathlib.Core.Bool.{true, false}
-use mathlib.Core.List.{List, []}
+use Prim.Native.Nat.{ℕ, _+_, _<_}
+use mathlib.Core.List.{List}
 use native.Mathlib.Omega.{arith}
 use lib.IntN.{ℤ}
 use lib.ListN.{length, drop}
 use borrow.Author.Tests.{leb-true}
 use Rattle.endian.specs.Numbers.{littleAt}
-use Rattle.refusal.specs.Tests.{done, refused, first}
+use Rattle.refusal.specs.Tests.{refused, first}
 use Rattle.refusal.proofs.TestLaws.{either, first-told, done-passes}
 use Rattle.record.specs.Readers.{stated-length, framing, sound}
 use Rattle.record_paths.specs.PathFields.{bytes-alone}

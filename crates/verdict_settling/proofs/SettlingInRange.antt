@@ -2,7 +2,7 @@
 -- multiplier is below 0 and the scale is 1 at least, which is all that the theory asks.
 use mathlib.Core.Path.{_≡_, refl}
 use Prim.Native.Nat.{ℕ, suc, _+_, _*_, _≤_}
-use mathlib.Core.List.{List, [], _∷_, _++_}
+use mathlib.Core.List.{List, _∷_, _++_}
 use native.Mathlib.Omega.{arith}
 use lib.ListN.{replicate}
 use Rattle.refusal.specs.Tests.{done, first}
@@ -10,14 +10,12 @@ use Rattle.refusal.proofs.TestLaws.{done-passes}
 use Rattle.record.specs.Contents.{Counts-in, Rows-in}
 use Rattle.record.specs.Fields.{width, Field}
 use Rattle.record.specs.Layouts.{entry, right-side, scale, multiplier}
-use Rattle.record.specs.Readers.{sound}
 use Rattle.record.proofs.KindLaws.{loop-only, loop-known}
 use Rattle.record.proofs.Lengths.{widths-replicate}
-use Rattle.record.proofs.SoundRecords.{Sound, sound-says}
+use Rattle.record.proofs.SoundRecords.{sound-says}
 use Rattle.record_paths.specs.PathFields.{bytes-alone, is-kind, is-long, fields-fit}
 use Rattle.record_settling.specs.SettlingRecords.{g-place, t-place, k-place, E-place, Y-place, Z-place, settling-fields, sound-settling}
 use Rattle.theory_settling.specs.Settlings.{NonNegativeSettling}
-use Rattle.verdict.specs.Contents.{loop-in}
 use Rattle.verdict.specs.Pairs.{loop-record}
 use Rattle.verdict.proofs.Demands.{nonneg-all, scale-positive}
 use Rattle.verdict.proofs.PartsInRange.{counts-in, loop-parts}

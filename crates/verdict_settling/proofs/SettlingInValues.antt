@@ -2,7 +2,7 @@
 -- them with a rank list that has room gives 0 if and only if the conditions of 02, Q-8, hold of those values, and tells a condition's number and
 -- place if and only if that condition is the first to fail, there. The same of bound, at every state in range. So every settling in range that
 -- meets the conditions is accepted. The loop's bytes are those that its writer writes.
-use mathlib.Core.Path.{_≡_, sym, _∙_}
+use mathlib.Core.Path.{_≡_, _∙_}
 use mathlib.Core.Logic.{_↔_}
 use mathlib.Core.Bool.{true}
 use mathlib.Core.List.{List, _++_}
@@ -10,13 +10,13 @@ use Prim.Native.Nat.{ℕ, _≤_, _<_}
 use lib.IntN.{ℤ}
 use lib.ListN.{length, drop}
 use borrow.Author.Tests.{eq-eqb}
-use Rattle.theory.specs.Loops.{Loop, over}
+use Rattle.theory.specs.Loops.{over}
 use Rattle.theory.specs.Rankings.{rank, start, fall}
 use Rattle.theory_settling.specs.SettlingFails.{SettlingFails}
 use Rattle.theory_settling.specs.Settlings.{Settling, SettlingHolds, longer, settling-bound}
 use Rattle.verdict.specs.Stages.{shows, refusal-of}
 use Rattle.verdict.specs.declared.Outcome.the-variants as Outcomes
-use Rattle.verdict.proofs.InValues.{Loop-given, Loop-held, loop-held, loop-writer, bytes-in}
+use Rattle.verdict.proofs.InValues.{Loop-given, loop-held, loop-writer, bytes-in}
 use Rattle.verdict.proofs.StatesInRange.{State-in}
 use Rattle.verdict_paths.proofs.PathDemands.{kind-1-by-rows}
 use Rattle.whole.specs.Rows.{Row}

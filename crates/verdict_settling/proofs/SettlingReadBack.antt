@@ -2,9 +2,8 @@
 -- reading them with the loop's counts gives the values back.
 use mathlib.Core.Path.{_≡_, refl, _∙_}
 use Prim.Native.Nat.{ℕ, suc, _+_, _*_, _≤_}
-use mathlib.Core.List.{List, [], _∷_, _++_}
+use mathlib.Core.List.{List, _∷_, _++_}
 use native.Mathlib.Omega.{arith}
-use lib.IntN.{pos}
 use lib.ListN.{length, replicate, length-append}
 use borrow.Author.Tests.{le-leb, eq-eqb}
 use Rattle.endian.specs.Numbers.{littleAt, digits}

@@ -9,8 +9,8 @@ use native.Mathlib.Omega.{arith}
 use lib.IntN.{ℤ, pos, negsuc}
 use lib.ListN.{length, take, replicate, set}
 use lib.Signed.{leZ-yes}
-use Rattle.record.specs.Contents.{Counts-in, Rows-in, row-values, rows-values}
-use Rattle.record.specs.Ranges.{_to_, either-way, variables, rows, entries, right-sides, scales, multipliers, state-entries}
+use Rattle.record.specs.Contents.{Counts-in, Rows-in}
+use Rattle.record.specs.Ranges.{either-way, state-entries}
 use Rattle.record.specs.Samples as Records
 use Rattle.theory.specs.Loops.{Run, Endless}
 use Rattle.theory.specs.Rankings.{bound}
@@ -70,10 +70,10 @@ abbrev too-soon-pair : Settling-pair
 too-soon-pair = pair-of curve-bytes too-soon-bytes
 
 -- a list of three places, and a state
-abbrev three : List ℤ
+abbrev pub three : List ℤ
 three = pos 7 ∷ pos 8 ∷ pos 9 ∷ []
 
-abbrev at-0-5 : List ℤ
+abbrev pub at-0-5 : List ℤ
 at-0-5 = pos 0 ∷ pos 5 ∷ []
 
 -- ---- what the bytes hold
@@ -314,7 +314,7 @@ pub paths-and-settling : (lent state : List ℤ)
 unfolding computing two-counters-bytes curve-settling-bytes
 paths-and-settling lent state = (
   paths-with-settling two-counters-bytes curve-settling-bytes lent refl
-  (record { a-length = omega arith; a-kind = omega arith; stated = refl }) refl,
+      (record { a-length = omega arith; a-kind = omega arith; stated = refl }) refl,
   paths-never-bounded two-counters-bytes curve-settling-bytes state (record { a-length = omega arith; a-kind = omega arith; stated = refl }) refl,
 )
 
@@ -381,14 +381,14 @@ unfolding curve
 too-soon-told-in-values = (
   settling-told-in-values 2 5 (curve .rows) room-of-70 too-soon curve-given too-soon-in three room-for-rank 24 0 (omega arith) .1 too-soon-fails,
   settling-told-bound-in-values 2 5 (curve .rows) room-of-70 too-soon curve-given too-soon-in at-0-5 state-is-in 24 0 (omega arith)
-  .1 too-soon-fails,
+      .1 too-soon-fails,
 )
 
 pub too-soon-fails-in-values : SettlingFails curve too-soon 24 0 × SettlingFails curve too-soon 24 0
 unfolding curve
 too-soon-fails-in-values = (
   settling-told-in-values 2 5 (curve .rows) room-of-70 too-soon curve-given too-soon-in three room-for-rank 24 0 (omega arith)
-  .0 (too-soon-told-in-values .0),
+      .0 (too-soon-told-in-values .0),
   settling-told-bound-in-values 2 5 (curve .rows) room-of-70 too-soon curve-given too-soon-in at-0-5 state-is-in 24 0 (omega arith)
-  .0 (too-soon-told-in-values .1),
+      .0 (too-soon-told-in-values .1),
 )

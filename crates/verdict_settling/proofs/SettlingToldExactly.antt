@@ -19,7 +19,6 @@ use Rattle.verdict.specs.Pairs.{loop-record}
 use Rattle.verdict.specs.Stages.{refusal, said, refusal-of, verdict-of}
 use Rattle.verdict.specs.StateTests.{state-tests}
 use Rattle.verdict.specs.declared.Bounded.{Bounded}
-use Rattle.verdict.specs.declared.Verdict.{Verdict}
 use Rattle.verdict.proofs.StageLaws.{stage-done, stage-refused, stage-passed, stage-tells, silent-said}
 use Rattle.verdict.proofs.StatesInRange.{State-in, state-fits}
 use Rattle.verdict.proofs.ToldExactly.{above, said-so, bounded-verdict, never-8-bound}

@@ -1,7 +1,7 @@
--- Records of kind 8 and what goes with them as bytes, written out from 01, "Records on file", and 02, Q-8: the curve that climbs before it falls,
--- a settling of it, and an exclusion of the same loop. In a loop record a line is the length, the kind, n and m, then a line for each row; in a
--- settling the length and the kind, then a line each for g, t, k, E, Y and Z; in an exclusion the length, the kind and q, then U, V and W. Crate
--- `theory_settling` has the same samples as rows; `SettlingSamples` proves that these bytes hold them.
+-- Records of kind 8 and what goes with them as bytes, written out from 01, "Records on file", and 02, Q-8: the curve that climbs before
+-- it falls, a settling of it, and an exclusion of the same loop. In a loop record a line is the length, the kind, n and m, then a line for
+-- each row; in a settling the length and the kind, then a line each for g, t, k, E, Y and Z; in an exclusion the length, the kind and q,
+-- then U, V and W. Crate `theory_settling` has the same samples as rows; `SettlingSamples` proves that these bytes hold them.
 use Prim.Native.Nat.{ℕ}
 use mathlib.Core.List.{List, [], _∷_}
 

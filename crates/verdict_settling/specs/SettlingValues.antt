@@ -4,7 +4,6 @@ use Prim.Native.Nat.{ℕ, suc, _+_, _*_}
 use mathlib.Core.List.{List, _++_}
 use lib.IntN.{ℤ, pos}
 use lib.ListN.{length, replicate}
-use Rattle.endian.specs.Numbers.{digits}
 use Rattle.record.specs.Contents.{In, List-in}
 use Rattle.record.specs.Fields.{i32, stored, bytesOf}
 use Rattle.record.specs.Layouts.{entry}
@@ -12,8 +11,8 @@ use Rattle.record.specs.Ranges.{entries, right-sides, scales, multipliers}
 use Rattle.theory_settling.specs.Settlings.{Settling}
 use Rattle.verdict_paths.specs.PathValues.{framed, count-bytes, list-bytes}
 
--- within the limits, for a loop of n variables and m rows: "g (as s), a threshold t (as s0), a scale k, m multipliers E, then Y and Z, m + 1
--- each"
+-- within the limits, for a loop of n variables and m rows: "g (as s), a threshold t (as s0), a scale k, m multipliers E, then Y and Z,
+-- m + 1 each"
 pub record Settling-in (n m : ℕ) (c : Settling) : Type 0 where
   pub g-in : List-in entries n (c .g)
   pub t-in : In right-sides (c .t)

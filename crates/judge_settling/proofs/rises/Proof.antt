@@ -1,5 +1,5 @@
 -- `judge_settling::rises` meets its contract: the parts stand where `settling-held` has them. Assumes nothing.
-use mathlib.Core.Path.{_≡_, ap, _∙_}
+use mathlib.Core.Path.{_≡_, _∙_}
 use native.Mathlib.Omega.{arith}
 use lib.IntN.{pos, negℤ}
 use mir.Syntax.{w64}

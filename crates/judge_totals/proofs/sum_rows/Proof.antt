@@ -1,29 +1,27 @@
 -- `judge_totals::sum_rows` meets its contract: before each turn the totals are those of the rows so far, and the next row starts at `at`. Assumes nothing.
-use Prim.Native.Nat.{_+_, _*_, _-_, _≤_, _<_}
-use mathlib.Core.Path.{_≡_}
+use Prim.Native.Nat.{_+_, _-_, _≤_, _<_}
+use mathlib.Core.Path.{_≡_, refl, _∙_}
 use native.Mathlib.Omega.{arith}
 use lib.ListN.{length}
-use Rattle.judge_sums.specs.Places.{multiplierAt, rightAt, rowPlace, liftTerm, rightTerm, RestStays, SumsOf, mostEntry, mostRight}
-use Rattle.judge_sums.specs.Running.{SumOf}
+use Rattle.judge_sums.specs.Places.{rowPlace}
 use Rattle.judge_sums.proofs.ColumnLaws.{row-inside}
-use Rattle.judge_sums.proofs.LiftLaws.{rest-none, rest-more, sums-none, sums-more, sums-grow}
-use Rattle.judge_sums.proofs.RunningLaws.{sum-none, sum-more}
 use borrow.Author.Needs.{needs}
+use Rattle.judge_totals.specs.Visits.{TotalsOf}
+use Rattle.judge_totals.proofs.TotalsLaws.{totals-none, totals-more, totals-grow}
 use Rattle.judge_totals.proofs.sum_rows.Statement.{statement}
 use Rattle.judge_totals.proofs.sum_rows.Tie as tie
 
 abbrev Inv-loop : tie.InvT-loop
 Inv-loop sums₀ rows start n multipliers place count stride beside₀ at₀ i₀ sums beside at i =
-    (i ≤ count) × (at ≡ rowPlace start n i) × RestStays (2 * n) sums₀ sums × SumsOf multipliers place rows start n i sums
-    × SumOf i mostEntry (liftTerm multipliers place) (beside .lift .sum)
-    × SumOf i mostRight (rightTerm multipliers place rows start n) (beside .right .sum)
+    (i ≤ count) × (at ≡ rowPlace start n i) × (length sums ≡ length sums₀)
+    × TotalsOf multipliers place rows start n i sums (beside .lift .sum) (beside .right .sum)
 
 abbrev μ-loop : tie.MeasureT-loop
 μ-loop sums₀ rows start n multipliers place count stride beside₀ at₀ i₀ sums beside at i = count - i
 
 -- where the call started
 abbrev start : tie.At-loop Inv-loop μ-loop → tie.Start Inv-loop μ-loop
-start c = c .before .before .before .before .before
+start c = c .before .before .before .before
 
 -- the row of this turn lies within the bytes
 inside : (c : tie.In-loop Inv-loop μ-loop)
@@ -38,23 +36,18 @@ mul-stride c = search needs
 add-stride : tie.Need-add-stride Inv-loop μ-loop
 add-stride c = search needs
 
-new-requires : tie.Need-new-requires Inv-loop μ-loop
-new-requires c κs = search needs
-
-new-requires-2 : tie.Need-new-requires-2 Inv-loop μ-loop
-new-requires-2 c κs = search needs
+none-requires : tie.Need-none-requires Inv-loop μ-loop
+none-requires c κs = search needs
 
 loop-holds : tie.Need-loop-holds Inv-loop μ-loop
 loop-holds c =
-    let first = c .before in
-    let start = first .before .before .before in
-    let a = start .args in (
+    let s = c .before .before .before in
+    let a = s .args in
+    let none = c .none in (
       omega arith,
       omega arith,
-      rest-none (2 * a .n) (a .sums .now),
-      sums-none (a .multipliers .now) (a .place) (a .rows .now) (a .start) (a .n) (a .sums .now) (start .pre .1),
-      sum-none mostEntry (liftTerm (a .multipliers .now) (a .place)) (first .new .ensures),
-      sum-none mostRight (rightTerm (a .multipliers .now) (a .place) (a .rows .now) (a .start) (a .n)) (c .new2 .ensures),
+      refl,
+      totals-none (a .multipliers .now) (a .place) (a .rows .now) (a .start) (a .n) (a .sums .now) _ _ (s .pre .1) (none .ensures .0) (none .ensures .1),
     )
 
 mul-u16-at : tie.Need-mul-u16-at Inv-loop μ-loop
@@ -73,15 +66,9 @@ visit-requires c κs =
     let s = start turn in
     let a = s .args in
     let row = inside (read .before) in
-    let few : turn .loop .i < 16384 = omega (arith, read .before .loop-test .taken, s .pre .2 .few) in (
-      omega (arith, turn .loop .inv .2 .long, s .pre .0),
-      sums-grow (a .multipliers .now) (a .place) (a .rows .now) (a .start) (a .n) (turn .loop .i) (turn .loop .sums) (turn .loop .inv .3) few,
-      omega (arith, turn .loop .inv .4 .small),
-      omega (arith, turn .loop .inv .5 .small),
-      read .u16-at .ensures .1,
-      omega (arith, row, turn .loop .inv .1),
-      s .pre .2 .narrow,
-    )
+    let few : turn .loop .i < 16384 = omega (arith, read .before .loop-test .taken, s .pre .2 .few) in
+    let grow = totals-grow (a .multipliers .now) (a .place) (a .rows .now) (a .start) (a .n) (turn .loop .i) (turn .loop .sums) _ _ (turn .loop .inv .3) few in
+    (omega (arith, turn .loop .inv .2, s .pre .0), grow .0, grow .1, grow .2, read .u16-at .ensures .1, omega (arith, row, turn .loop .inv .1), s .pre .2 .narrow)
 
 add-at : tie.Need-add-at Inv-loop μ-loop
 add-at c = let row = inside (c .before .before .before .before) in search needs
@@ -93,7 +80,6 @@ loop-less : tie.Need-loop-less Inv-loop μ-loop
 loop-less c = search needs
 
 loop-again : tie.Need-loop-again Inv-loop μ-loop
-unfolding multiplierAt liftTerm rightTerm
 loop-again c =
     let called = c .before .visit in
     let read = c .before .before .before .u16-at in
@@ -101,21 +87,18 @@ loop-again c =
     let a = start turn .args in (
       omega arith,
       omega arith,
-      rest-more (turn .loop .inv .2) (called .ensures .0),
-      sums-more (a .multipliers .now) (a .place) (a .rows .now) (a .start) (a .n) (turn .loop .i) (read .result) (turn .loop .at) (turn .loop .sums) (called .last .0)
-          (turn .loop .inv .3) (read .ensures .0) (read .ensures .1) (turn .loop .inv .1) (called .ensures .0),
-      sum-more mostEntry (liftTerm (a .multipliers .now) (a .place)) (turn .loop .i) (turn .loop .inv .4) (rw (read .ensures .0) at (called .ensures .1 .lift-adds)),
-      sum-more mostRight (rightTerm (a .multipliers .now) (a .place) (a .rows .now) (a .start) (a .n)) (turn .loop .i) (turn .loop .inv .5)
-          (rw (read .ensures .0, turn .loop .inv .1) at (called .ensures .1 .right-adds)),
+      called .ensures .0 .long ∙ turn .loop .inv .2,
+      totals-more (a .multipliers .now) (a .place) (a .rows .now) (a .start) (a .n) (turn .loop .i) (read .result) (turn .loop .at) (turn .loop .sums)
+          (called .last .0) _ _ _ _ (turn .loop .inv .3) (read .ensures) (turn .loop .inv .1) (called .ensures .0) (called .ensures .1),
     )
 
 same-length : tie.Need-same-length Inv-loop μ-loop
-same-length c = c .before .loop .inv .2 .long
+same-length c = c .before .loop .inv .2
 
 returns : tie.Need-returns Inv-loop μ-loop
 returns c =
     let end : c .before .loop .i ≡ start (c .before) .args .count = omega arith in
-    (rw end at (c .before .loop .inv .3), rw end at (c .before .loop .inv .4), rw end at (c .before .loop .inv .5))
+    rw end at (c .before .loop .inv .3)
 
 pub sum-rows-spec : {M : Type 1} → statement M
 sum-rows-spec =
@@ -125,8 +108,7 @@ sum-rows-spec =
     μ-loop
     mul-stride
     add-stride
-    new-requires
-    new-requires-2
+    none-requires
     loop-holds
     mul-u16-at
     add-u16-at

@@ -1,10 +1,8 @@
 -- `judge_totals::visit` meets its contract: a row without weight adds nothing to any total. Assumes nothing.
 use Prim.Native.Nat.{_+_, _*_}
-use lib.IntN.{pos}
-use Rattle.judge_sums.specs.Places.{rightAt, mostEntry, mostRight}
 use Rattle.judge_sums.proofs.LiftLaws.{row-weightless}
-use Rattle.judge_sums.proofs.RunningLaws.{adds-nothing}
 use borrow.Author.Needs.{needs}
+use Rattle.judge_totals.proofs.TotalsLaws.{visits-nothing}
 use Rattle.judge_totals.proofs.visit.Statement.{statement}
 use Rattle.judge_totals.proofs.visit.Tie as tie
 
@@ -13,10 +11,7 @@ returns c =
     let a = c .before .before .args in
     let none = c .if1 .taken in (
       row-weightless (a .multiplier) (a .rows .now) (a .row) (a .sums .now) (2 * a .n) none,
-      record {
-        lift-adds = adds-nothing mostEntry none (pos 32768) (a .beside .lift .sum);
-        right-adds = adds-nothing mostRight none (rightAt (a .rows .now) (a .row + 4 * a .n)) (a .beside .right .sum);
-      },
+      visits-nothing (a .multiplier) (a .rows .now) (a .row + 4 * a .n) (a .beside .lift .sum) (a .beside .right .sum) none,
     )
 
 mul-add-row : tie.Need-mul-add-row
@@ -25,24 +20,20 @@ mul-add-row c = search needs
 add-row-requires : tie.Need-add-row-requires
 add-row-requires c κs = search needs
 
-add-lift-requires : tie.Need-add-lift-requires
-add-lift-requires c κs = search needs
+mul-add-beside : tie.Need-mul-add-beside
+mul-add-beside c = search needs
 
-mul-add-right : tie.Need-mul-add-right
-mul-add-right c = search needs
+add-add-beside : tie.Need-add-add-beside
+add-add-beside c = search needs
 
-add-add-right : tie.Need-add-add-right
-add-add-right c = search needs
-
-add-right-requires : tie.Need-add-right-requires
-add-right-requires c κs = search needs
+add-beside-requires : tie.Need-add-beside-requires
+add-beside-requires c κs = search needs
 
 same-length : tie.Need-same-length
 same-length c = search needs
 
 returns-2 : tie.Need-returns-2
-returns-2 c =
-    (c .before .before .before .before .before .add-row .ensures, record { lift-adds = c .before .add-lift .ensures; right-adds = c .add-right .ensures })
+returns-2 c = search needs
 
 pub visit-spec : {M : Type 1} → statement M
 visit-spec =
@@ -51,9 +42,8 @@ visit-spec =
     returns
     mul-add-row
     add-row-requires
-    add-lift-requires
-    mul-add-right
-    add-add-right
-    add-right-requires
+    mul-add-beside
+    add-add-beside
+    add-beside-requires
     same-length
     returns-2)

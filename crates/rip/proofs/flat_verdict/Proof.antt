@@ -5,7 +5,7 @@ use borrow.Author.Needs.{needs, sfits-of}
 use Rattle.verdict.specs.Outcomes.{numbers, grade-number}
 use Rattle.verdict.specs.declared.Grade.the-variants.{Whole, Fractions}
 use Rattle.verdict.specs.declared.Outcome.{Outcome}
-use Rattle.verdict.specs.declared.Outcome.the-variants.{Nothing, Ranking, Exclusion, Lasso, Lexicographic}
+use Rattle.verdict.specs.declared.Outcome.the-variants.{Nothing, Ranking, Exclusion, Lasso, Lexicographic, Settling}
 use Rattle.verdict.specs.declared.Verdict.{Verdict}
 use Rattle.rip.specs.Flat.{told, flat-verdict}
 use Rattle.rip.proofs.flat_verdict.Statement.{statement}
@@ -54,6 +54,12 @@ enum-told-4 c = search needs
 flat-told-requires-6 : tie.Need-flat-told-requires-6
 flat-told-requires-6 c κs = search needs
 
+enum-known-outcome-4 : tie.Need-enum-known-outcome-4
+enum-known-outcome-4 c = search needs
+
+flat-told-requires-7 : tie.Need-flat-told-requires-7
+flat-told-requires-7 c κs = search needs
+
 returns : tie.Need-returns
 unfolding numbers
 returns c = c .flat-told .ensures ∙ by-outcome _ Nothing (c .before .enum-told .given .1)
@@ -82,6 +88,12 @@ returns-6 : tie.Need-returns-6
 unfolding numbers
 returns-6 c = c .flat-told6 .ensures ∙ by-outcome _ Lexicographic (c .before .enum-told4 .given .1)
 
+returns-7 : tie.Need-returns-7
+unfolding numbers
+returns-7 c =
+    let k = c .before in
+    rw (toZ-ofZ (sfits-of (k .known-told4 .given .0 .1)), toZ-ofZ (sfits-of (k .known-told4 .given .1 .0 .1))) at (c .flat-told7 .ensures) ∙ by-outcome _ (Settling _ _) (k .before .outcome4 .given .1)
+
 pub flat-verdict-spec : {M : Type 1} → statement M
 flat-verdict-spec =
     tie.close
@@ -99,9 +111,12 @@ flat-verdict-spec =
     flat-told-requires-5
     enum-told-4
     flat-told-requires-6
+    enum-known-outcome-4
+    flat-told-requires-7
     returns
     returns-2
     returns-3
     returns-4
     returns-5
-    returns-6)
+    returns-6
+    returns-7)

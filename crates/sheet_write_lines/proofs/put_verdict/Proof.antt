@@ -11,7 +11,7 @@ use borrow.Author.Needs.{needs}
 use Rattle.decimal.specs.Decimals.{decimal}
 use Rattle.sheet_lines.specs.VerdictLines.{rank-words, outcome-words}
 use Rattle.sheet_lines.specs.Words.{bytes, line}
-use Rattle.sheet_lines.proofs.LineLaws.{rank-word, lasso-word, whole-line, fractions-line, nothing-line, lexicographic-line, ranking-line, lasso-line, whole-exclusion-line, fractions-exclusion-line}
+use Rattle.sheet_lines.proofs.LineLaws.{rank-word, lasso-word, whole-line, fractions-line, nothing-line, lexicographic-line, settling-line, ranking-line, lasso-line, whole-exclusion-line, fractions-exclusion-line}
 use Rattle.sheet_write_lines.proofs.put_verdict.Statement.{statement}
 use Rattle.sheet_write_lines.proofs.put_verdict.Tie as tie
 
@@ -27,6 +27,10 @@ nothing c = let a = c .before .before .before .args in nothing-line (a .v .outco
 lexicographic : (c : tie.After-enum-told4)
     → text-of (c .before .before .before) ≡ line (bytes "refused" ∷ decimal (c .before .before .before .args .v .number) ∷ decimal (c .before .before .before .args .v .place) ∷ [])
 lexicographic c = let a = c .before .before .before .args in lexicographic-line (a .v .outcome) (a .v .number) (a .v .place) (a .rank .now) (c .enum-told4 .given .1)
+
+settling : (c : tie.After-enum-told5)
+    → text-of (c .before .before .before) ≡ line (bytes "refused" ∷ decimal (c .before .before .before .args .v .number) ∷ decimal (c .before .before .before .args .v .place) ∷ [])
+settling c = let a = c .before .before .before .args in settling-line (a .v .outcome) (a .v .number) (a .v .place) (a .rank .now) _ _ (c .enum-told5 .given .1)
 
 ranking : (c : tie.After-known-told)
     → text-of (c .before .before .before .before) ≡ rank-word ++ line (rank-words (c .before .before .before .before .args .rank .now) (c .before .outcome .given .0 .0) (c .before .outcome .given .0 .1 .0))
@@ -107,6 +111,12 @@ enum-told-4 c = search needs
 put-refusal-requires-2 : tie.Need-put-refusal-requires-2
 put-refusal-requires-2 c κs = rw (← lexicographic (c .before)) (c .before .before .before .before .pre)
 
+enum-told-5 : tie.Need-enum-told-5
+enum-told-5 c = search needs
+
+put-refusal-requires-3 : tie.Need-put-refusal-requires-3
+put-refusal-requires-3 c κs = rw (← settling (c .before)) (c .before .before .before .before .pre)
+
 same-length : tie.Need-same-length
 same-length c = search needs
 
@@ -147,6 +157,12 @@ same-length-6 c = search needs
 returns-6 : tie.Need-returns-6
 returns-6 c = rw (lexicographic (c .before .before .before .before)) (c .before .before .put-refusal2 .ensures)
 
+same-length-7 : tie.Need-same-length-7
+same-length-7 c = search needs
+
+returns-7 : tie.Need-returns-7
+returns-7 c = rw (settling (c .before .before .before .before)) (c .before .before .put-refusal3 .ensures)
+
 pub put-verdict-spec : {M : Type 1} → statement M
 put-verdict-spec =
     tie.close
@@ -168,6 +184,8 @@ put-verdict-spec =
     put-rank-requires-2
     enum-told-4
     put-refusal-requires-2
+    enum-told-5
+    put-refusal-requires-3
     same-length
     returns
     same-length-2
@@ -179,4 +197,6 @@ put-verdict-spec =
     same-length-5
     returns-5
     same-length-6
-    returns-6)
+    returns-6
+    same-length-7
+    returns-7)

@@ -1,0 +1,2 @@
+pub mod BoundWays
+pub mod OneAnswer
