@@ -1,0 +1,2 @@
+-- what a sound record of kind 7 has
+pub mod ShortSound
