@@ -15,7 +15,7 @@ ghost use Rattle.record_paths_check.specs.PathChecks.{tells, ended, walk
 ghost use Rattle.record_paths_check.specs.PathChecks.{Paths-counted, Components-counted, Numbered};
 use refusal::Fault;
 
-fn told(number: usize, place: usize) -> Fault
+pub fn told(number: usize, place: usize) -> Fault
     ensures { λ r. ⌜ r ≡ tells number place ⌝ }
 {
     Fault {
@@ -25,7 +25,7 @@ fn told(number: usize, place: usize) -> Fault
 }
 
 // The last test of a record: `at` is where its values have their first fault, `end` where they end.
-fn ends(at: usize, end: usize) -> Fault
+pub fn ends(at: usize, end: usize) -> Fault
     ensures { λ r. ⌜ r ≡ ended at end ⌝ }
 {
     if at < end { told(6, at) } else { told(0, 0) }

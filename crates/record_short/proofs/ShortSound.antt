@@ -42,7 +42,7 @@ pub record ShortSound (n m : ℕ) (bytes : List ℕ) : Type 0 where
 
 -- ---- the tests of a triple
 
-rises-so : (m : ℕ) (bytes : List ℕ) (k : ℕ) → row-rises m bytes k ≡ true
+pub rises-so : (m : ℕ) (bytes : List ℕ) (k : ℕ) → row-rises m bytes k ≡ true
     → (row-in bytes k < m) × ((eqb k 0 || ltb (row-in bytes (k - 1)) (row-in bytes k)) ≡ true)
 unfolding row-rises
 rises-so m bytes k h =
