@@ -1,2 +1,6 @@
 -- what a sound record of kind 7 has
 pub mod ShortSound
+-- runs of u16
+pub mod NumberRuns
+-- the kind 2 record that a short one stands for, as runs
+pub mod LongRecords
