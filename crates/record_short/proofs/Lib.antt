@@ -4,3 +4,7 @@ pub mod ShortSound
 pub mod NumberRuns
 -- the kind 2 record that a short one stands for, as runs
 pub mod LongRecords
+-- the rows that have weight, and their triples
+pub mod ShortBytes
+-- what a sound record of kind 2 has
+pub mod LongSound

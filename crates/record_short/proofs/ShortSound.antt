@@ -86,7 +86,7 @@ module _ (bytes : List ℕ) where
   Fitting count place = in-range (triples-fields count) (values (triples-fields count) (drop place bytes)) ≡ true
 
   -- the first of some fields, where it is a u16 of a range from 0 on, and the rest
-  first-so : (f : Field) (fs : List Field) (most place : ℕ) → f .form ≡ u16 → f .range ≡ (0 to most) → littleAt 2 bytes place ≤ most
+  pub first-so : (f : Field) (fs : List Field) (most place : ℕ) → f .form ≡ u16 → f .range ≡ (0 to most) → littleAt 2 bytes place ≤ most
       → in-range fs (values fs (drop (place + 2) bytes)) ≡ true → in-range (f ∷ fs) (values (f ∷ fs) (drop place bytes)) ≡ true
   unfolding in-range values number width littleAt
   first-so f fs most place form range low rest = rw (form, range, drop-drop) (true-both _ _ (small-within most _ low) rest)
