@@ -65,7 +65,9 @@ module _ (m : ℕ) (bytes : List ℕ) (i : ℕ) where
       let first = begun-more room front (digits 2 i) room at 2 start zero-long (length-digits 2 i) row-there in
       let second = begun-more room (front ++ digits 2 i) (digits 2 y) r1 (at + 2) 2 first one-long (length-digits 2 y) Y-there in
       let third = begun-more room (front ++ digits 2 i ++ digits 2 y) (digits 2 z) r2 (at + 4) 2 second two-long (length-digits 2 z) Z-there in
-      third ∙ rw (three-long, one, ← y-read, ← z-read, append-nil (digits 2 z), append-assoc, append-assoc)
+      let joined : front ++ digits 2 i ++ digits 2 y ++ digits 2 z ≡ front ++ (digits 2 i ++ (digits 2 y ++ (digits 2 z ++ [])))
+      = rw (append-nil (digits 2 z), append-assoc (front ++ digits 2 i) (digits 2 y) (digits 2 z), append-assoc front (digits 2 i) (digits 2 y ++ digits 2 z)) in
+      third ∙ rw (three-long, joined, one, ← y-read, ← z-read)
 
 -- ---- all rows
 
