@@ -8,3 +8,5 @@ pub mod LongRecords
 pub mod ShortBytes
 -- what a sound record of kind 2 has
 pub mod LongSound
+-- the edges of both calls, computed
+pub mod ShortEdges
