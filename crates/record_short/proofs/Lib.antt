@@ -10,3 +10,9 @@ pub mod ShortBytes
 pub mod LongSound
 -- the edges of both calls, computed
 pub mod ShortEdges
+-- weights by their rows
+pub mod Weights
+-- kind 2 to kind 7 and back
+pub mod ShortenLengthen
+-- kind 7 to kind 2 and back
+pub mod LengthenShorten

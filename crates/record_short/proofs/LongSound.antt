@@ -61,7 +61,7 @@ module _ (n m : ℕ) (bytes : List ℕ) (room : ℕ) where
     unfolding R.fields R.counts-read ranking-given listed layout counts is-loop
     fields-are = rw of-kind (replicate-append-replicate m m multiplier)
 
-    list-is : R.list (ranking-given bytes n m room) ≡ values (replicate (m + m) multiplier) (drop 6 bytes)
+    pub list-is : R.list (ranking-given bytes n m room) ≡ values (replicate (m + m) multiplier) (drop 6 bytes)
     unfolding R.list R.list-start ahead is-loop widths ranking-given
     list-is = rw (fields-are, of-kind)
 

@@ -1,7 +1,7 @@
 -- Runs of u16: `u16s count f` are the bytes of f 0, .. , f (count - 1). What is read from them, one number put in another's place, and
 -- that bytes are the run of what is read from them.
 use mathlib.Core.Path.{_≡_, refl, sym, ap, ap₂, _∙_}
-use Prim.Native.Nat.{ℕ, zero, suc, _+_, _*_, _-_, _≤_, _<_}
+use Prim.Native.Nat.{ℕ, zero, suc, _+_, _*_, _-_, _^_, _≤_, _<_}
 use mathlib.Core.Bool.{true, false, cond}
 use mathlib.Core.List.{List, [], _∷_, _++_, append-assoc, append-nil}
 use native.Mathlib.Omega.{arith}
@@ -10,7 +10,7 @@ use lib.ListN.{length, take, drop, replicate, length-append, length-drop}
 use lib.Seq.{take-at, drop-at, drop-drop, take-add, length-take-le}
 use borrow.Author.Tests.{eq-eqb, ne-eqb}
 use Rattle.endian.specs.Numbers.{Bytes, little, littleAt, digits}
-use Rattle.endian.proofs.Laws.{bytes-take, bytes-drop, bytes-join, bytes-digits, length-digits, little-digits, digits-little, littleAt-first, littleAt-second}
+use Rattle.endian.proofs.Laws.{bytes-take, bytes-drop, bytes-join, bytes-digits, length-digits, little-digits, digits-little}
 
 unfoldable pub u16s : ℕ → (ℕ → ℕ) → List ℕ
 u16s zero f = []
@@ -89,11 +89,12 @@ u16s-put h t count f i x place below is =
 
 -- ---- bytes are the run of what is read from them
 
-pub u16-read : (bytes : List ℕ) (place : ℕ) → Bytes bytes → place + 2 ≤ length bytes → digits 2 (littleAt 2 bytes place) ≡ take 2 (drop place bytes)
+pub number-read : (wide : ℕ) (bytes : List ℕ) (place : ℕ) → Bytes bytes → place + wide ≤ length bytes
+    → digits wide (littleAt wide bytes place) ≡ take wide (drop place bytes)
 unfolding littleAt
-u16-read bytes place all inside =
-    let long : length (take 2 (drop place bytes)) ≡ 2 = length-take-le 2 (drop place bytes) (rw length-drop (omega arith)) in
-    rw long at (digits-little (take 2 (drop place bytes)) (bytes-take 2 (drop place bytes) (bytes-drop place bytes all)))
+number-read wide bytes place all inside =
+    let long : length (take wide (drop place bytes)) ≡ wide = length-take-le wide (drop place bytes) (rw length-drop (omega arith)) in
+    rw long at (digits-little (take wide (drop place bytes)) (bytes-take wide (drop place bytes) (bytes-drop place bytes all)))
 
 pub u16s-read : (count : ℕ) (bytes : List ℕ) (place : ℕ) → Bytes bytes → place + 2 * count ≤ length bytes
     → u16s count (λ i. littleAt 2 bytes (place + 2 * i)) ≡ take (2 * count) (drop place bytes)
@@ -104,4 +105,12 @@ u16s-read (suc count) bytes place all inside =
     let two : 2 * suc count ≡ 2 + 2 * count = omega arith in
     let later : u16s count (λ i. littleAt 2 bytes (place + 2 * suc i)) ≡ u16s count (λ i. littleAt 2 bytes (place + 2 + 2 * i))
     = u16s-same count (λ i. littleAt 2 bytes (place + 2 * suc i)) (λ i. littleAt 2 bytes (place + 2 + 2 * i)) (λ i below. ap (littleAt 2 bytes) (omega arith)) in
-    rw (here, later, two, take-add 2 (2 * count) (drop place bytes), u16-read bytes place all (omega arith), drop-drop 2 place bytes, u16s-read count bytes (place + 2) all (omega arith))
+    rw (here, later, two, take-add 2 (2 * count) (drop place bytes), number-read 2 bytes place all (omega arith), drop-drop 2 place bytes, u16s-read count bytes (place + 2) all (omega arith))
+
+-- ---- a number after some bytes
+
+pub number-there : (wide : ℕ) (front rest : List ℕ) (x place : ℕ) → length front ≡ place → x < 256 ^ wide
+    → littleAt wide (front ++ (digits wide x ++ rest)) place ≡ x
+unfolding littleAt
+number-there wide front rest x place before small =
+    rw (drop-at front (digits wide x ++ rest) place before, take-at (digits wide x) rest wide (length-digits wide x)) (little-digits wide x small)

@@ -65,7 +65,7 @@ so-rises m bytes (suc j) below rise =
 both-zero : (y z : ℕ) → not (eqb y 0 && eqb z 0) ≡ true → (y ≡ 0) × (z ≡ 0) → ⊥
 both-zero y z h e = let wrong : false ≡ true = rw (e .0, e .1) at h in let no : _≡_ {A = ℕ} 0 1 = cc in omega arith
 
-not-both : (y z : ℕ) → ((y ≡ 0) × (z ≡ 0) → ⊥) → not (eqb y 0 && eqb z 0) ≡ true
+pub not-both : (y z : ℕ) → ((y ≡ 0) × (z ≡ 0) → ⊥) → not (eqb y 0 && eqb z 0) ≡ true
 not-both y z h =
     either (eqb y 0)
     (λ e. rw (e, ne-eqb z 0 (λ f. h (eqb-true y 0 e, f))))
