@@ -1,0 +1,3 @@
+pub mod TripleTests
+pub mod TripleWalks
+pub mod ShortWays

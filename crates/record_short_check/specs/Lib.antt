@@ -1,0 +1,2 @@
+-- what the parts of a check answer
+pub mod ShortChecks

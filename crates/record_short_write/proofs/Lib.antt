@@ -1,0 +1,4 @@
+pub mod RoomLaws
+pub mod LongRooms
+pub mod ShortRooms
+pub mod ConversionWays

@@ -1,0 +1,2 @@
+-- what the parts of the two calls leave in a room
+pub mod Rooms
