@@ -16,3 +16,5 @@ pub mod Weights
 pub mod ShortenLengthen
 -- kind 7 to kind 2 and back
 pub mod LengthenShorten
+-- what one call wrote, given to the other; and refused calls
+pub mod ThereAndBack
