@@ -1,3 +1,5 @@
+-- the edges of both calls, computed
+pub mod ShortEdges
 -- what a sound record of kind 7 has
 pub mod ShortSound
 -- runs of u16
@@ -8,8 +10,6 @@ pub mod LongRecords
 pub mod ShortBytes
 -- what a sound record of kind 2 has
 pub mod LongSound
--- the edges of both calls, computed
-pub mod ShortEdges
 -- weights by their rows
 pub mod Weights
 -- kind 2 to kind 7 and back

@@ -1,23 +1,22 @@
 -- The round trips of the two calls: with room enough, what one wrote is moved back by the other, and the first bytes stand in the room again.
 -- And a refused call changes nothing and answers 0 but for number and place.
 use mathlib.Core.Path.{_≡_, refl, sym, ap, _∙_}
-use Prim.Native.Nat.{ℕ, _+_, _*_, _≤_, _<_}
-use mathlib.Core.List.{List, [], _∷_, _++_}
+use Prim.Native.Nat.{ℕ, _+_, _*_, _≤_}
+use mathlib.Core.List.{List, _++_}
 use native.Mathlib.Omega.{arith}
 use lib.ListN.{length, take, drop}
 use lib.Seq.{take-append-seam}
 use borrow.Author.Tests.{le-leb}
 use Rattle.endian.specs.Numbers.{Bytes}
 use Rattle.refusal.specs.Tests.{Told, done, refused, first, number}
-use Rattle.refusal.proofs.TestLaws.{Passes, done-passes, passes-done, passes-append, append-passes, zero-done}
+use Rattle.refusal.proofs.TestLaws.{done-passes, passes-done, passes-append, append-passes, zero-done}
 use Rattle.record.specs.declared.Writing.{Writing}
 use Rattle.record.specs.Readers.{sound}
-use Rattle.record_paths.specs.PathFields.{bytes-alone, is-kind, holds-counts, is-long, fields-fit}
+use Rattle.record_paths.specs.PathFields.{is-kind, holds-counts, is-long, fields-fit}
 use Rattle.record_short.specs.Conversions.{ranking-given, triples-needed, short-bytes, shortening, lengthening, converted, put-first}
 use Rattle.record_short.specs.Conversions.{shortening-told, lengthening-told, shortens, shortened-room, lengthens, lengthened-room}
 use Rattle.record_short.specs.ShortRecords.{sound-short, long-bytes}
 use Rattle.record_short.proofs.LengthenShorten.{long-is-sound, lengthen-shorten}
-use Rattle.record_short.proofs.LongRecords.{length-long}
 use Rattle.record_short.proofs.LongSound.{LongSound, long-sound, long-done}
 use Rattle.record_short.proofs.ShortBytes.{length-short}
 use Rattle.record_short.proofs.ShortSound.{ShortSound, short-sound, sound-done, sound-short-bytes}
