@@ -1,8 +1,8 @@
 -- Kind 7 to kind 2 and back: the kind 2 record of a sound short one is sound, and shortened it is the first record again.
 use mathlib.Core.Path.{_≡_, refl, sym, ap, _∙_}
 use Prim.Native.Nat.{ℕ, zero, suc, _+_, _*_, _≤_, _<_}
-use mathlib.Core.Bool.{Bool, true, false, cond, _&&_}
-use mathlib.Core.List.{List, [], _∷_, _++_, append-assoc, append-nil}
+use mathlib.Core.Bool.{false, _&&_}
+use mathlib.Core.List.{List, [], _++_, append-assoc, append-nil}
 use native.Mathlib.Decide.{decLt}
 use native.Mathlib.Omega.{arith}
 use lib.Dec.{eqb}
@@ -13,13 +13,12 @@ use Rattle.endian.specs.Numbers.{Bytes, littleAt, digits}
 use Rattle.endian.proofs.Laws.{length-digits, littleAt-second}
 use Rattle.whole.specs.Sums.{tabulate}
 use Rattle.whole.proofs.Tables.{length-tabulate, tabulate-more}
-use Rattle.refusal.specs.Places.{Throughout}
 use Rattle.refusal.specs.Tests.{done, first}
-use Rattle.refusal.proofs.TestLaws.{either, both-true}
+use Rattle.refusal.proofs.TestLaws.{either}
 use Rattle.record.specs.Readers.{sound}
 use Rattle.record.proofs.CountLimits.{rows-most}
 use Rattle.record_short.specs.Conversions.{ranking-given, long-Y, long-Z, rows-with-weight, triples-bytes, triples-needed, short-bytes}
-use Rattle.record_short.specs.ShortRecords.{triples-in, row-in, Y-in, Z-in, weight-of, long-bytes}
+use Rattle.record_short.specs.ShortRecords.{triples-in, row-in, Y-in, Z-in, long-bytes}
 use Rattle.record_short.proofs.LongRecords.{Y-after, Z-after, long-runs, length-long}
 use Rattle.record_short.proofs.LongSound.{LongSound, long-done}
 use Rattle.record_short.proofs.NumberRuns.{u16s, length-u16s, u16s-at, number-read, number-there}
@@ -43,18 +42,30 @@ triples-read m from bytes (suc count) row place all inside read =
     let Y-bytes = ap (digits 2) (here .1 ∙ ap (littleAt 2 bytes) Y-at) ∙ number-read 2 bytes (place + 2) all (omega arith) in
     let Z-bytes = ap (digits 2) (here .2 ∙ ap (littleAt 2 bytes) Z-at) ∙ number-read 2 bytes (place + 4) all (omega arith) in
     let rest = triples-read m from bytes count (λ k. row (suc k)) (place + 6) all (omega arith)
-        (λ k below.
-        let one = read (suc k) (omega arith) in
-        let r : place + 6 * suc k ≡ place + 6 + 6 * k = omega arith in
-        let y : place + 2 + 6 * suc k ≡ place + 6 + 2 + 6 * k = omega arith in
-        let z : place + 4 + 6 * suc k ≡ place + 6 + 4 + 6 * k = omega arith in
-        (one .0 ∙ ap (littleAt 2 bytes) r, one .1 ∙ ap (littleAt 2 bytes) y, one .2 ∙ ap (littleAt 2 bytes) z)) in
+    (λ k below.
+    let one = read (suc k) (omega arith) in
+    let r : place + 6 * suc k ≡ place + 6 + 6 * k = omega arith in
+    let y : place + 2 + 6 * suc k ≡ place + 6 + 2 + 6 * k = omega arith in
+    let z : place + 4 + 6 * suc k ≡ place + 6 + 4 + 6 * k = omega arith in
+    (one .0 ∙ ap (littleAt 2 bytes) r, one .1 ∙ ap (littleAt 2 bytes) y, one .2 ∙ ap (littleAt 2 bytes) z)) in
     let parts : 6 * suc count ≡ 2 + (2 + (2 + 6 * count)) = omega arith in
     let third : place + 2 + 2 ≡ place + 4 = omega arith in
     let fourth : place + 4 + 2 ≡ place + 6 = omega arith in
-    rw (row-bytes, Y-bytes, Z-bytes, rest, parts, take-add 2 (2 + (2 + 6 * count)) (drop place bytes), drop-drop 2 place bytes,
-    take-add 2 (2 + 6 * count) (drop (place + 2) bytes), drop-drop 2 (place + 2) bytes, third, take-add 2 (6 * count) (drop (place + 4) bytes),
-    drop-drop 2 (place + 4) bytes, fourth)
+    rw (
+      row-bytes,
+      Y-bytes,
+      Z-bytes,
+      rest,
+      parts,
+      take-add 2 (2 + (2 + 6 * count)) (drop place bytes),
+      drop-drop 2 place bytes,
+      take-add 2 (2 + 6 * count) (drop (place + 2) bytes),
+      drop-drop 2 (place + 2) bytes,
+      third,
+      take-add 2 (6 * count) (drop (place + 4) bytes),
+      drop-drop 2 (place + 4) bytes,
+      fourth,
+    )
 
 module _ (n m : ℕ) (bytes : List ℕ) (s : ShortSound n m bytes) where
   abbrev longer : List ℕ
@@ -216,12 +227,11 @@ module _ (n m : ℕ) (bytes : List ℕ) (s : ShortSound n m bytes) where
   triple-read : (k : ℕ) → k < count → (row-in bytes k ≡ littleAt 2 bytes (8 + 6 * k)) × (long-Y longer (row-in bytes k) ≡ littleAt 2 bytes (8 + 2 + 6 * k))
       × (long-Z m longer (row-in bytes k) ≡ littleAt 2 bytes (8 + 4 + 6 * k))
   unfolding row-in Y-in Z-in
-  triple-read k below =
-      (
-        refl,
-        Y-read (row-in bytes k) (s .rows-below k below) ∙ weight-there (row-in bytes) (Y-in bytes) count k rising below,
-        Z-read (row-in bytes k) (s .rows-below k below) ∙ weight-there (row-in bytes) (Z-in bytes) count k rising below,
-      )
+  triple-read k below = (
+    refl,
+    Y-read (row-in bytes k) (s .rows-below k below) ∙ weight-there (row-in bytes) (Y-in bytes) count k rising below,
+    Z-read (row-in bytes k) (s .rows-below k below) ∙ weight-there (row-in bytes) (Z-in bytes) count k rising below,
+  )
 
   pub lengthen-shorten : Bytes bytes → short-bytes m (long-bytes n m bytes) ≡ bytes
   unfolding short-bytes triples-in

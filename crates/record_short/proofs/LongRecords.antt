@@ -1,7 +1,7 @@
 -- The kind 2 record that a short one stands for: its bytes as runs of u16.
 use mathlib.Core.Path.{_≡_, refl, sym, ap, _∙_}
-use Prim.Native.Nat.{ℕ, zero, suc, _+_, _*_, _≤_, _<_}
-use mathlib.Core.List.{List, [], _∷_, _++_}
+use Prim.Native.Nat.{ℕ, zero, suc, _+_, _*_}
+use mathlib.Core.List.{List, _++_}
 use native.Mathlib.Omega.{arith}
 use lib.IntN.{pos}
 use lib.ListN.{length, replicate, length-append, length-replicate}
@@ -9,7 +9,7 @@ use Rattle.endian.specs.Numbers.{digits}
 use Rattle.endian.proofs.Laws.{length-digits}
 use Rattle.whole.specs.Sums.{tabulate}
 use Rattle.whole.proofs.Tables.{length-tabulate}
-use Rattle.record.specs.Fields.{width, stored, bytesOf}
+use Rattle.record.specs.Fields.{stored, bytesOf}
 use Rattle.record.specs.Layouts.{multiplier, kindOf, is-loop, is-lasso, counts, layout, lengthOf, ahead, listed}
 use Rattle.record.specs.Writers as W
 use Rattle.record.proofs.FieldLaws.{bytesOf-append}
@@ -37,8 +37,11 @@ module _ (n m : ℕ) (bytes : List ℕ) where
   long-runs =
       let field = replicate m multiplier in
       let long : length (tabulate m (λ i. pos (Y-after bytes (triples-in bytes) i))) ≡ length field = length-tabulate m _ ∙ sym (length-replicate m multiplier) in
-      rw (bytesOf-append field field (tabulate m (λ i. pos (Y-after bytes (triples-in bytes) i))) (tabulate m (λ i. pos (Z-after bytes (triples-in bytes) i))) long,
-      run-bytes m (Y-after bytes (triples-in bytes)), run-bytes m (Z-after bytes (triples-in bytes)))
+      rw (
+        bytesOf-append field field (tabulate m (λ i. pos (Y-after bytes (triples-in bytes) i))) (tabulate m (λ i. pos (Z-after bytes (triples-in bytes) i))) long,
+        run-bytes m (Y-after bytes (triples-in bytes)),
+        run-bytes m (Z-after bytes (triples-in bytes)),
+      )
 
   pub length-long : length (long-bytes n m bytes) ≡ 6 + 4 * m
   length-long = rw (long-runs, length-append, length-append, length-append, length-digits, length-digits, length-u16s, length-u16s) (omega arith)

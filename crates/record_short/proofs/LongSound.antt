@@ -1,8 +1,8 @@
 -- What a sound record of kind 2 has, `LongSound`: every test of a reading that wants rankings alone passes exactly when it has this.
-use mathlib.Core.Path.{_≡_, refl, sym, ap, _∙_}
-use Prim.Native.Nat.{ℕ, zero, suc, _+_, _*_, _-_, _≤_, _<_}
-use mathlib.Core.Bool.{Bool, true, false, _&&_, false≢true}
-use mathlib.Core.List.{List, [], _∷_, _++_}
+use mathlib.Core.Path.{_≡_, refl}
+use Prim.Native.Nat.{ℕ, zero, suc, _+_, _*_, _-_, _≤_}
+use mathlib.Core.Bool.{true, false, false≢true}
+use mathlib.Core.List.{List}
 use native.Mathlib.Decide.{decLt}
 use native.Mathlib.Omega.{arith}
 use lib.IntN.{pos}
@@ -12,8 +12,8 @@ use Rattle.endian.specs.Numbers.{littleAt}
 use Rattle.refusal.specs.Places.{Throughout}
 use Rattle.refusal.specs.Tests.{done, first}
 use Rattle.refusal.proofs.TestLaws.{Passes, passes-done, both-true, true-both}
-use Rattle.record.specs.Fields.{Field, widths, values, in-range}
-use Rattle.record.specs.Layouts.{multiplier, ranking, kindOf, is-loop, is-lasso, counts, layout, lengthOf, ahead, listed}
+use Rattle.record.specs.Fields.{widths, values, in-range}
+use Rattle.record.specs.Layouts.{multiplier, ranking, kindOf, is-loop, counts, layout, lengthOf, ahead, listed}
 use Rattle.record.specs.Ranges.{_to_, variables, rows, multipliers, within}
 use Rattle.record.specs.Readers as R
 use Rattle.record.specs.Readers.{sound}
@@ -130,9 +130,25 @@ module _ (n m : ℕ) (bytes : List ℕ) (room : ℕ) where
         let four : 4 ≤ length (r .bytes) = omega (arith, bytes-are) in
         let head : 2 ≤ R.stated-length r = omega (arith, stated-is) in
         let few : 4 + R.stated-length r ≤ length (r .bytes) = omega (arith, stated-is, bytes-are) in
-        let many : length (r .bytes) ≤ 4 + R.stated-length r = omega (arith, stated-is, bytes-are) in
-        (le-leb _ _ four, (le-leb _ _ head, (le-leb _ _ few, (le-leb _ _ many, (wanted, (arguments,
-        (le-leb _ _ (no-counts .0), (no-counts .1, (eq-eqb _ _ formula, (values-fit, tt))))))))))
+        let many : length (r .bytes) ≤ 4 + R.stated-length r = omega (arith, stated-is, bytes-are) in (
+          le-leb _ _ four,
+          (
+            le-leb _ _ head,
+            (
+              le-leb _ _ few,
+              (
+                le-leb _ _ many,
+                (
+                  wanted,
+                  (
+                    arguments,
+                    (le-leb _ _ (no-counts .0), (no-counts .1, (eq-eqb _ _ formula, (values-fit, tt)))),
+                  ),
+                ),
+              ),
+            ),
+          ),
+        )
 
   pub long-done : LongSound n m bytes → first sound (ranking-given bytes n m room) ≡ done
   long-done s = passes-done sound (ranking-given bytes n m room) (passes s)

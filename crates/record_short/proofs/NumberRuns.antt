@@ -1,15 +1,15 @@
 -- Runs of u16: `u16s count f` are the bytes of f 0, .. , f (count - 1). What is read from them, one number put in another's place, and
 -- that bytes are the run of what is read from them.
-use mathlib.Core.Path.{_≡_, refl, sym, ap, ap₂, _∙_}
+use mathlib.Core.Path.{_≡_, refl, ap, _∙_}
 use Prim.Native.Nat.{ℕ, zero, suc, _+_, _*_, _-_, _^_, _≤_, _<_}
-use mathlib.Core.Bool.{true, false, cond}
-use mathlib.Core.List.{List, [], _∷_, _++_, append-assoc, append-nil}
+use mathlib.Core.Bool.{cond}
+use mathlib.Core.List.{List, [], _++_, append-assoc}
 use native.Mathlib.Omega.{arith}
 use lib.Dec.{eqb}
 use lib.ListN.{length, take, drop, replicate, length-append, length-drop}
 use lib.Seq.{take-at, drop-at, drop-drop, take-add, length-take-le}
 use borrow.Author.Tests.{eq-eqb, ne-eqb}
-use Rattle.endian.specs.Numbers.{Bytes, little, littleAt, digits}
+use Rattle.endian.specs.Numbers.{Bytes, littleAt, digits}
 use Rattle.endian.proofs.Laws.{bytes-take, bytes-drop, bytes-join, bytes-digits, length-digits, little-digits, digits-little}
 
 unfoldable pub u16s : ℕ → (ℕ → ℕ) → List ℕ

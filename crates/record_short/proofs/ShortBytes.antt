@@ -1,5 +1,5 @@
 -- The rows of a kind 2 record that have weight, and the bytes of their triples.
-use mathlib.Core.Path.{_≡_, refl, sym, ap, _∙_}
+use mathlib.Core.Path.{_≡_, refl}
 use Prim.Native.Nat.{ℕ, zero, suc, _+_, _*_, _≤_, _<_}
 use mathlib.Core.Bool.{Bool, true, false, cond, _&&_}
 use mathlib.Core.List.{List, [], _∷_, _++_, append-assoc}
@@ -7,7 +7,6 @@ use native.Mathlib.Decide.{decLt}
 use native.Mathlib.Omega.{arith}
 use lib.Dec.{eqb}
 use lib.ListN.{length, length-append}
-use Rattle.endian.specs.Numbers.{digits}
 use Rattle.endian.proofs.Laws.{length-digits}
 use Rattle.record_short.specs.Conversions.{long-Y, long-Z, rows-with-weight, triples-bytes, triples-needed, short-bytes}
 

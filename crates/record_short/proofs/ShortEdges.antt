@@ -7,7 +7,6 @@ use mathlib.Core.List.{List, [], _∷_, _++_}
 use lib.Dec.{eqb}
 use lib.ListN.{length, replicate, take}
 use Rattle.refusal.specs.Tests.{Told, number, place, first}
-use Rattle.record.specs.declared.Writing.{Writing}
 use Rattle.record.specs.Samples as Samples
 use Rattle.record.proofs.EdgeInputs.{two, four, filed}
 use Rattle.record_short.specs.Conversions.{ranking-given, shortening, lengthening, shortens, shortened-room, lengthens, lengthened-room}

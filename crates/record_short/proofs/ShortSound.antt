@@ -1,7 +1,7 @@
 -- What a sound record of kind 7 has, `ShortSound`: every test passes exactly when it has this. And that the tests read the bytes alone.
-use mathlib.Core.Path.{_≡_, refl, sym, _∙_}
+use mathlib.Core.Path.{_≡_, refl}
 use Prim.Native.Nat.{ℕ, zero, suc, _+_, _*_, _-_, _≤_, _<_}
-use mathlib.Core.Bool.{Bool, true, false, not, _&&_, _||_}
+use mathlib.Core.Bool.{true, false, not, _&&_, _||_}
 use mathlib.Core.List.{List, [], _∷_}
 use native.Mathlib.Decide.{decLt}
 use native.Mathlib.Omega.{arith}
@@ -9,9 +9,9 @@ use lib.Dec.{eqb, ltb, leb}
 use lib.IntN.{pos}
 use lib.ListN.{length, drop}
 use lib.Seq.{drop-drop}
-use borrow.Author.Tests.{le-leb, leb-true, lt-ltb, ltb-true, eq-eqb, eqb-true, ne-eqb, not-true}
+use borrow.Author.Tests.{le-leb, leb-true, lt-ltb, ltb-true, eq-eqb, eqb-true, ne-eqb}
 use Rattle.endian.specs.Numbers.{littleAt}
-use Rattle.refusal.specs.Places.{Throughout, before-failing}
+use Rattle.refusal.specs.Places.{Throughout}
 use Rattle.refusal.specs.Tests.{done, first}
 use Rattle.refusal.proofs.FaultLaws.{Named}
 use Rattle.refusal.proofs.PlaceLaws.{before-all, holds-before}
@@ -112,8 +112,7 @@ module _ (bytes : List ℕ) where
         let fourth : place + 4 + 2 ≡ place + 6 = omega arith in
         let row = first-fits row-number (multiplier ∷ multiplier ∷ triples-fields count) bytes place refl h in
         let Y = first-fits multiplier (multiplier ∷ triples-fields count) bytes (place + 2) refl (row .1) in
-        let Z = first-fits multiplier (triples-fields count) bytes (place + 4) refl (rw third at (Y .1)) in
-        (
+        let Z = first-fits multiplier (triples-fields count) bytes (place + 4) refl (rw third at (Y .1)) in (
           (within-both 0 65535 _ (row .0) .1, within-both 0 60000 _ (Y .0) .1, within-both 0 60000 _ (Z .0) .1),
           rw fourth at (Z .1),
         )
@@ -209,9 +208,25 @@ module _ (n m : ℕ) (bytes : List ℕ) where
         let there : 4 + littleAt 4 bytes 0 ≤ length bytes = omega (arith, s .stated, s .long) in
         let ends : length bytes ≤ 4 + littleAt 4 bytes 0 = omega (arith, s .stated, s .long) in
         let counts : 4 ≤ littleAt 4 bytes 0 = omega (arith, s .stated) in
-        let whole = eq-eqb _ _ all-pass in
-        (le-leb _ _ four, (le-leb _ _ head, (le-leb _ _ there, (le-leb _ _ ends, (eq-eqb _ _ (s .numbered), (true-both _ _ (s .n-fits) (s .m-fits),
-        (le-leb _ _ counts, (first-so bytes triple-count [] 64 6 refl refl (s .few) refl, (eq-eqb _ _ (s .stated), (rw whole, (whole, (values-fit, tt))))))))))))
+        let whole = eq-eqb _ _ all-pass in (
+          le-leb _ _ four,
+          (
+            le-leb _ _ head,
+            (
+              le-leb _ _ there,
+              (
+                le-leb _ _ ends,
+                (
+                  eq-eqb _ _ (s .numbered),
+                  (
+                    true-both _ _ (s .n-fits) (s .m-fits),
+                    (le-leb _ _ counts, (first-so bytes triple-count [] 64 6 refl refl (s .few) refl, (eq-eqb _ _ (s .stated), (rw whole, (whole, (values-fit, tt)))))),
+                  ),
+                ),
+              ),
+            ),
+          ),
+        )
 
     pub sound-done : first (sound-short n m) (bytes-alone bytes) ≡ done
     sound-done = passes-done (sound-short n m) (bytes-alone bytes) passes

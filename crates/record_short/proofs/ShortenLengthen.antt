@@ -1,19 +1,18 @@
 -- Kind 2 to kind 7 and back: the short record of a sound ranking is sound, and lengthened it is the first record again.
-use mathlib.Core.Path.{_≡_, refl, sym, ap, ap₂, _∙_}
+use mathlib.Core.Path.{_≡_, refl, sym, ap, _∙_}
 use Prim.Native.Nat.{ℕ, zero, suc, _+_, _*_, _≤_, _<_}
-use mathlib.Core.Bool.{Bool, true, false, cond, _&&_}
+use mathlib.Core.Bool.{true, false, cond, _&&_}
 use mathlib.Core.List.{List, [], _∷_, _++_, append-assoc, append-nil}
 use mathlib.Core.Logic.{_↔_}
 use native.Mathlib.Decide.{decLt}
 use native.Mathlib.Omega.{arith}
 use lib.Dec.{eqb, ltb}
 use lib.IntN.{pos}
-use lib.ListN.{length, replicate, take, drop, getD, length-append, length-take, List·getD-append}
+use lib.ListN.{length, replicate, take, drop, getD, length-append, List·getD-append}
 use lib.Seq.{split-at, length-take-le, take-all, take-add, drop-drop, getD-append-seam}
-use borrow.Author.Tests.{lt-ltb, le-ltb, eqb-true, eq-eqb, ne-eqb, eqb-false}
+use borrow.Author.Tests.{lt-ltb, le-ltb, eqb-true, eqb-false}
 use Rattle.endian.specs.Numbers.{Bytes, littleAt, digits}
 use Rattle.endian.proofs.Laws.{length-digits}
-use Rattle.refusal.specs.Places.{Throughout}
 use Rattle.refusal.specs.Tests.{done, first}
 use Rattle.refusal.proofs.TestLaws.{either, both-true}
 use Rattle.whole.specs.Sums.{tabulate}
@@ -28,8 +27,8 @@ use Rattle.record_short.specs.Conversions.{ranking-given, long-Y, long-Z
 use Rattle.record_short.specs.ShortRecords.{triples-in, row-in, Y-in, Z-in, weight-of, Y-for, Z-for, sound-short, long-bytes}
 use Rattle.record_short.proofs.LongRecords.{Y-after, Z-after, long-runs}
 use Rattle.record_short.proofs.LongSound.{LongSound, list-is}
-use Rattle.record_short.proofs.NumberRuns.{u16s, u16s-same, u16s-read, number-read, number-there}
-use Rattle.record_short.proofs.ShortBytes.{triples-append, length-triples, row-listed, rows-few, length-short}
+use Rattle.record_short.proofs.NumberRuns.{u16s-same, u16s-read, number-read, number-there}
+use Rattle.record_short.proofs.ShortBytes.{triples-append, length-triples, rows-few, length-short}
 use Rattle.record_short.proofs.ShortSound.{ShortSound, sound-done}
 use Rattle.record_short.proofs.Weights.{weight-same}
 
@@ -85,17 +84,18 @@ module _ (m : ℕ) (bytes : List ℕ) where
     where
       stays : Listed count (rows count) → Listed (suc count) (rows count)
       stays l = record { below = λ k h. omega (arith, l .below k h); rise = l .rise; weigh = l .weigh }
+
       grows : Weighs count → Listed count (rows count) → Listed (suc count) (rows count ++ (count ∷ []))
       grows some l =
           record {
             below = last-too (rows count) count (λ x. x < suc count) (λ k h. omega (arith, l .below k h)) (omega arith);
             rise = λ k h.
-            (elim (decLt (suc k) (length (rows count))) [
-              | yes early ↦ rw (at-early (rows count) count k (omega arith), at-early (rows count) count (suc k) early) (l .rise k early)
-              | no late ↦
-                  let last : suc k ≡ length (rows count) = omega (arith, long (rows count) count) in
-                  rw (last, at-last (rows count) count, at-early (rows count) count k (omega arith)) (l .below k (omega arith))
-            ]);
+                (elim (decLt (suc k) (length (rows count))) [
+                  | yes early ↦ rw (at-early (rows count) count k (omega arith), at-early (rows count) count (suc k) early) (l .rise k early)
+                  | no late ↦
+                      let last : suc k ≡ length (rows count) = omega (arith, long (rows count) count) in
+                      rw (last, at-last (rows count) count, at-early (rows count) count k (omega arith)) (l .below k (omega arith))
+                ]);
             weigh = last-too (rows count) count Weighs (l .weigh) some;
           }
 
@@ -107,9 +107,12 @@ module _ (m : ℕ) (bytes : List ℕ) where
     found-last : (list : List ℕ) (x : ℕ) → found (list ++ (x ∷ [])) ≡ cond (eqb x i) (w x) (found list)
     unfolding found weight-of
     found-last list x =
-        rw (long list x, at-last list x,
-        weight-same (λ k. getD (list ++ (x ∷ [])) k 0) (λ k. getD list k 0) (λ k. w (getD (list ++ (x ∷ [])) k 0)) (λ k. w (getD list k 0)) (length list) i
-        (λ k early. (at-early list x k early, ap w (at-early list x k early))))
+        rw (
+          long list x,
+          at-last list x,
+          weight-same (λ k. getD (list ++ (x ∷ [])) k 0) (λ k. getD list k 0) (λ k. w (getD (list ++ (x ∷ [])) k 0)) (λ k. w (getD list k 0)) (length list) i
+              (λ k early. (at-early list x k early, ap w (at-early list x k early))),
+        )
 
     found-all : (count : ℕ) → found (rows count) ≡ cond (ltb i count) (w i) 0
     unfolding found weight-of rows-with-weight
@@ -135,6 +138,7 @@ module _ (m : ℕ) (bytes : List ℕ) where
                         rw (le-ltb i count past, lt-ltb i (suc count) so) (sym none)
                   ]
             ]
+
         weighed : found (rows count) ≡ cond (ltb i count) (w i) 0 → cond (eqb count i) (w count) (found (rows count)) ≡ cond (ltb i (suc count)) (w i) 0
         weighed before =
             either (eqb count i)
@@ -272,9 +276,9 @@ module _ (n m : ℕ) (bytes : List ℕ) (s : LongSound n m bytes) where
         few-by-rows = rw count-read (rows-few m bytes m);
         rows-below = λ k h. let b = rw count-read at h in rw (row-read k b) (row-below k b);
         rows-rise = λ k h.
-        (let b = rw count-read at h in
-        let a : k < length list = omega arith in
-        rw (row-read k a, row-read (suc k) b) (l .rise k b));
+            (let b = rw count-read at h in
+            let a : k < length list = omega arith in
+            rw (row-read k a, row-read (suc k) b) (l .rise k b));
         weighty = λ k h. let b = rw count-read at h in rw (Y-read k b, Z-read k b) (l .weigh k b);
         Y-most = λ k h. let b = rw count-read at h in rw (Y-read k b) (s .Y-most (row k b) (row-below k b));
         Z-most = λ k h. let b = rw count-read at h in rw (Z-read k b) (s .Z-most (row k b) (row-below k b));

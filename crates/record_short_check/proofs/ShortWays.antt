@@ -1,7 +1,7 @@
 -- The ways through the order for a record of kind 7: what is told at each return of its check.
 use mathlib.Core.Path.{_≡_, refl, sym, ap, _∙_}
 use Prim.Native.Nat.{ℕ, _+_, _*_, _≤_, _<_}
-use mathlib.Core.Bool.{Bool, true, false, _&&_}
+use mathlib.Core.Bool.{true, false, _&&_}
 use mathlib.Core.List.{List, [], _∷_}
 use native.Mathlib.Omega.{arith}
 use lib.Dec.{eqb}
@@ -10,14 +10,13 @@ use lib.ListN.{length, drop}
 use borrow.Author.Tests.{le-leb, lt-leb, eq-eqb, ne-eqb}
 use Rattle.endian.specs.Numbers.{littleAt}
 use Rattle.refusal.specs.Faults.{fault-of}
-use Rattle.refusal.specs.Places.{before-failing}
 use Rattle.refusal.specs.Tests.{refused, first}
 use Rattle.refusal.proofs.PlaceLaws.{before-within}
-use Rattle.refusal.proofs.TestLaws.{passed, failed, true-both}
+use Rattle.refusal.proofs.TestLaws.{passed, failed}
 use Rattle.record.specs.Fields.{width, widths}
 use Rattle.record.specs.Ranges.{variables, rows, within}
 use Rattle.record.specs.Readers.{stated-length, kind-number}
-use Rattle.record.proofs.CountLimits.{rows-most, arguments-most}
+use Rattle.record.proofs.CountLimits.{arguments-most}
 use Rattle.record_fields.specs.Runs.{fault}
 use Rattle.record_fields.proofs.FirstFaults.{one-fits, one-out, all-fit, not-all-fit}
 use Rattle.record_check.specs.Checks.{Framed}
@@ -103,9 +102,6 @@ module _ (n m : ℕ) (bytes : List ℕ) where
 module _ (n m : ℕ) (bytes : List ℕ) (count : ℕ) (d : Triples-counted n m bytes count) where
   pub few-rows : m ≤ 64
   few-rows = arguments-most n m (d .arguments) .1
-
-  pub few-triples : count ≤ 64
-  few-triples = rows-most count (d .count-fits)
 
   past-length : From n m bytes 9
   past-length =

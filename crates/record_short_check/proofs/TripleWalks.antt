@@ -6,7 +6,6 @@ use mathlib.Core.List.{List, [], _∷_, _++_}
 use native.Mathlib.Decide.{decLt}
 use native.Mathlib.Numerals.{add-one}
 use native.Mathlib.Omega.{arith}
-use lib.IntN.{pos}
 use lib.ListN.{replicate}
 use borrow.Author.Tests.{lt-ltb, le-ltb}
 use Rattle.endian.specs.Numbers.{littleAt}
@@ -15,12 +14,11 @@ use Rattle.refusal.proofs.PlaceLaws.{before-all, before-first}
 use Rattle.refusal.proofs.TestLaws.{true-both}
 use Rattle.record.specs.Fields.{width, number, widths}
 use Rattle.record.specs.Layouts.{multiplier}
-use Rattle.record.specs.Ranges.{_to_, within}
+use Rattle.record.specs.Ranges.{_to_}
 use Rattle.record_fields.specs.Runs.{number-at, fits, fault}
-use Rattle.record_fields.proofs.FirstFaults.{fault-none, fault-next, fault-within, stops, goes-on}
+use Rattle.record_fields.proofs.FirstFaults.{fault-none, fault-next, stops, goes-on}
 use Rattle.record_short.specs.ShortRecords.{row-in, row-rises, has-weight, row-number, triples-fields}
 use Rattle.record_short.proofs.ShortSound.{rises-so, small-within}
-use Rattle.record_short_check.specs.declared.Walked.{Walked}
 use Rattle.record_short_check.specs.ShortChecks.{triple-fields, with-triple, before, walked}
 
 -- ---- where the first value out of range stands

@@ -1,5 +1,5 @@
 -- What the parts of a check of kind 7 answer; the whole answers by `sound-short` of `record_short`.
-use Prim.Native.Nat.{ℕ, _+_, _*_, _≤_}
+use Prim.Native.Nat.{ℕ, _+_, _*_}
 use mathlib.Core.Path.{_≡_}
 use mathlib.Core.Bool.{true, cond, _&&_}
 use mathlib.Core.List.{List, [], _∷_}
@@ -24,7 +24,8 @@ triple-fields = row-number ∷ multiplier ∷ multiplier ∷ []
 unfoldable pub with-triple : List ℕ → ℕ → ℕ → ℕ
 with-triple bytes before at = cond (ltb before at) before (fault triple-fields bytes at)
 
--- a walk along the triples up to the first that fails: how many come before it, and where the first value of these that is out of range stands
+-- a walk along the triples up to the first that fails: how many come before it, and where the first value of these that is out of range
+-- stands
 unfoldable pub before : ℕ → List ℕ → ℕ → ℕ
 before m bytes count = before-failing count (λ i. row-rises m bytes i && has-weight bytes i)
 

@@ -68,10 +68,16 @@ fn triples_walked(bytes: &[u8], m: usize, count: usize) -> Walked
     let mut fault = 8;
     for i in 0..count {
         if !row_fits(bytes, m, i) {
-            return Walked { triples: i, fault: fault };
+            return Walked {
+                triples: i,
+                fault: fault,
+            };
         }
         if !weighs(bytes, i) {
-            return Walked { triples: i, fault: fault };
+            return Walked {
+                triples: i,
+                fault: fault,
+            };
         }
         fault = fault_with(bytes, fault, 8 + 6 * i);
     }

@@ -1,14 +1,14 @@
 -- What the two calls tell: a refusal of the record, 7 where it has no room, and else what was written.
-use mathlib.Core.Path.{_≡_, refl, sym, ap, _∙_}
+use mathlib.Core.Path.{_≡_, refl, sym, _∙_}
 use Prim.Native.Nat.{ℕ, _+_, _*_, _≤_, _<_}
 use mathlib.Core.Bool.{true, false}
-use mathlib.Core.List.{List, [], _∷_, _++_}
+use mathlib.Core.List.{List, [], _++_}
 use native.Mathlib.Omega.{arith}
 use lib.ListN.{length, drop}
 use borrow.Author.Tests.{le-leb, lt-leb}
 use Rattle.refusal.specs.declared.Fault.{Fault}
 use Rattle.refusal.specs.Faults.{fault-of}
-use Rattle.refusal.specs.Tests.{Told, done, refused, first}
+use Rattle.refusal.specs.Tests.{done, refused, first}
 use Rattle.refusal.proofs.FaultLaws.{fault-refused, fault-done}
 use Rattle.refusal.proofs.TestLaws.{passed, failed, passes-done, done-passes, first-then, first-told}
 use Rattle.record.specs.declared.Wanted.{Wanted}

@@ -1,7 +1,7 @@
 -- Zeros, and then the triples at their rows' places, make the kind 2 record of a short one.
-use mathlib.Core.Path.{_≡_, refl, sym, ap, _∙_}
-use Prim.Native.Nat.{ℕ, zero, suc, _+_, _*_, _≤_, _<_}
-use mathlib.Core.List.{List, [], _∷_, _++_, append-assoc}
+use mathlib.Core.Path.{_≡_, refl, ap, _∙_}
+use Prim.Native.Nat.{ℕ, zero, suc, _+_, _*_, _<_}
+use mathlib.Core.List.{List, [], _++_, append-assoc}
 use native.Mathlib.Omega.{arith}
 use lib.ListN.{length, take, drop, replicate, length-append, length-replicate}
 use Rattle.endian.specs.Numbers.{digits}
@@ -11,7 +11,7 @@ use Rattle.record_short.specs.ShortRecords.{triples-in, row-in, Y-in, Z-in, wei
 use Rattle.record_short.proofs.NumberRuns.{u16s, length-u16s, u16s-parts, u16s-zeros, u16s-put}
 use Rattle.record_short.proofs.LongRecords.{Y-after, Z-after, long-runs}
 use Rattle.record_short_write.specs.Rooms.{put-at, with-triple, with-triples}
-use Rattle.record_short_write.proofs.RoomLaws.{Begun, begun-more}
+use Rattle.record_short_write.proofs.RoomLaws.{begun-more}
 
 module _ (m : ℕ) (bytes : List ℕ) where
   -- a room that holds, after its head, the weights of the first `count` triples
@@ -25,9 +25,11 @@ module _ (m : ℕ) (bytes : List ℕ) where
       let row = row-in bytes count in
       let Ys = u16s m (Y-after bytes (suc count)) in
       let long : length (head ++ Ys) + 2 * row ≡ 6 + 2 * row + 2 * m = rw (length-append, length-u16s) (omega arith) in
-      rw (u16s-put head (u16s m (Z-after bytes count) ++ rest) m (Y-after bytes count) row (Y-in bytes count) (6 + 2 * row) below (omega arith),
-      ← append-assoc head Ys (u16s m (Z-after bytes count) ++ rest),
-      u16s-put (head ++ Ys) rest m (Z-after bytes count) row (Z-in bytes count) (6 + 2 * row + 2 * m) below long)
+      rw (
+        u16s-put head (u16s m (Z-after bytes count) ++ rest) m (Y-after bytes count) row (Y-in bytes count) (6 + 2 * row) below (omega arith),
+        ← append-assoc head Ys (u16s m (Z-after bytes count) ++ rest),
+        u16s-put (head ++ Ys) rest m (Z-after bytes count) row (Z-in bytes count) (6 + 2 * row + 2 * m) below long,
+      )
       (append-assoc head Ys (u16s m (Z-after bytes (suc count)) ++ rest))
 
   all-triples : (head rest : List ℕ) (count : ℕ) → length head ≡ 6 → Throughout count (λ k. row-in bytes k < m)

@@ -1,8 +1,7 @@
 -- A room that is written from its first byte on, part after part, and a part of it that is filled with zeros.
-use mathlib.Core.Path.{_≡_, refl, sym, ap, _∙_}
+use mathlib.Core.Path.{_≡_, sym, ap, _∙_}
 use Prim.Native.Nat.{ℕ, suc, _+_, _<_}
-use mathlib.Core.List.{List, [], _∷_, _++_, append-assoc, append-nil}
-use native.Mathlib.Numerals.{add-one}
+use mathlib.Core.List.{List, _++_, append-assoc, append-nil}
 use native.Mathlib.Omega.{arith}
 use lib.ListN.{length, set, take, drop, replicate, length-append, length-replicate, take-append-drop, replicate-append-replicate}
 use lib.Seq.{length-take-le, drop-cons, take-at, drop-at, drop-drop, set-at}
@@ -33,5 +32,11 @@ zeros-more d place i below =
     let front : length (take place d ++ replicate i 0) ≡ place + i
     = rw (length-append, length-take-le place d (omega arith), length-replicate) in
     let next : place + (i + 1) ≡ suc (place + i) = omega arith in
-    rw (drop-cons d (place + i) 0 below, set-at (take place d ++ replicate i 0) _ (drop (suc (place + i)) d) 0 (place + i) front, next,
-    ← replicate-append-replicate {A = ℕ} i 1 0, ← append-assoc (take place d) (replicate i 0) (replicate 1 0), append-assoc (take place d ++ replicate i 0) (replicate 1 0) _)
+    rw (
+      drop-cons d (place + i) 0 below,
+      set-at (take place d ++ replicate i 0) _ (drop (suc (place + i)) d) 0 (place + i) front,
+      next,
+      ← replicate-append-replicate {A = ℕ} i 1 0,
+      ← append-assoc (take place d) (replicate i 0) (replicate 1 0),
+      append-assoc (take place d ++ replicate i 0) (replicate 1 0) _,
+    )

@@ -1,7 +1,7 @@
 -- The triples of the rows that have weight, one after another, make the short record of a kind 2 one.
 use mathlib.Core.Path.{_≡_, refl, sym, ap, _∙_}
-use Prim.Native.Nat.{ℕ, zero, suc, _+_, _*_, _≤_, _<_}
-use mathlib.Core.Bool.{Bool, true, false, _&&_}
+use Prim.Native.Nat.{ℕ, _+_, _*_, _≤_}
+use mathlib.Core.Bool.{Bool, _&&_}
 use mathlib.Core.List.{List, [], _∷_, _++_, append-assoc, append-nil}
 use native.Mathlib.Numerals.{add-one}
 use native.Mathlib.Omega.{arith}
@@ -13,7 +13,7 @@ use Rattle.endian.specs.Numbers.{littleAt, digits}
 use Rattle.endian.proofs.Laws.{length-digits}
 use Rattle.refusal.proofs.TestLaws.{either}
 use Rattle.record_short.specs.Conversions.{long-Y, long-Z, rows-with-weight, triples-bytes, triples-needed, short-bytes}
-use Rattle.record_short.proofs.ShortBytes.{triples-append, length-triples, length-short}
+use Rattle.record_short.proofs.ShortBytes.{triples-append, length-triples}
 use Rattle.record_short_write.specs.Rooms.{listed, with-row, with-rows}
 use Rattle.record_short_write.proofs.RoomLaws.{Begun, begun-more}
 
@@ -94,7 +94,7 @@ module _ (m : ℕ) (bytes room : List ℕ) (head : 8 ≤ length room) where
       let front = take 8 room ++ triples-bytes m bytes (rows-with-weight m bytes i) in
       let long : length front ≡ 8 + 6 * length (rows-with-weight m bytes i) = rw (length-append, length-take-le 8 room head, length-triples) in
       let more = begun-more room front (triples-bytes m bytes (listed m bytes i)) (with-rows m bytes i room) (8 + 6 * length (rows-with-weight m bytes i))
-          (6 * length (listed m bytes i)) (rows-begun i) long (length-triples m bytes (listed m bytes i)) put in
+      (6 * length (listed m bytes i)) (rows-begun i) long (length-triples m bytes (listed m bytes i)) put in
       more ∙ same ∙ sym (rows-begun (i + 1))
     where
       same : (take 8 room ++ triples-bytes m bytes (rows-with-weight m bytes i) ++ triples-bytes m bytes (listed m bytes i))
@@ -117,6 +117,6 @@ short-room m bytes room r1 r2 r3 r4 count is stated kind counted rows =
     let second = begun-more room L (digits 2 7) r1 4 2 first (length-digits 4 (4 + 6 * count)) (length-digits 2 7) kind in
     let third = begun-more room (L ++ digits 2 7) (digits 2 count) r2 6 2 second six (length-digits 2 count) counted in
     let last = begun-more room (L ++ digits 2 7 ++ digits 2 count) triples r3 8 (6 * length (rows-with-weight m bytes m)) third eight
-        (length-triples m bytes (rows-with-weight m bytes m)) rows in
+    (length-triples m bytes (rows-with-weight m bytes m)) rows in
     let long : length (L ++ digits 2 7 ++ digits 2 count ++ triples) ≡ 8 + 6 * count = rw (length-append, eight, length-triples, is) in
     last ∙ rw (long, append-assoc L (digits 2 7) (digits 2 count), append-assoc L _ triples, append-assoc (digits 2 7) (digits 2 count) triples, ← is)

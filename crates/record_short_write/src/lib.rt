@@ -1,5 +1,5 @@
-// Moving rankings to kind 7 and back (02, Q-6). A record that is sound is written from the first byte of the room on; one that is not, or has
-// no room, is refused and changes no byte. `lengthen_into` also serves whoever needs the kind 2 record of a short one that is sound.
+// Moving rankings to kind 7 and back (02, Q-6). A record that is sound is written from the first byte of the room on; one that is not, or
+// has no room, is refused and changes no byte. `lengthen_into` also serves whoever needs the kind 2 record of a short one that is sound.
 ghost use Prim.Native.Nat.{ℕ, _+_, _*_, _≤_, _<_};
 ghost use mathlib.Core.Path.{_≡_};
 ghost use mathlib.Core.List.{_++_};

@@ -1,10 +1,8 @@
 -- `record_short_check::triples_told` meets its contract. Assumes nothing.
-use mathlib.Core.Path.{_≡_, sym, _∙_}
-use mathlib.Core.Bool.{true, false}
-use mathlib.Core.List.{List}
+use mathlib.Core.Path.{sym, _∙_}
 use native.Mathlib.Omega.{arith}
 use Rattle.record_paths_check.proofs.OrderWays.{says}
-use Rattle.record_short_check.proofs.ShortWays.{few-rows, few-triples, bad-row, no-weight, values-told}
+use Rattle.record_short_check.proofs.ShortWays.{few-rows, bad-row, no-weight, values-told}
 use borrow.Author.Needs.{needs}
 use Rattle.record_short_check.proofs.triples_told.Statement.{statement}
 use Rattle.record_short_check.proofs.triples_told.Tie as tie

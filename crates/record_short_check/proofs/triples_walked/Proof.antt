@@ -1,10 +1,10 @@
 -- `record_short_check::triples_walked` meets its contract. Assumes nothing.
 use mathlib.Core.Path.{_≡_, sym, _∙_}
-use mathlib.Core.Bool.{true, false, _&&_}
-use Prim.Native.Nat.{_-_, _≤_}
+use mathlib.Core.Bool.{true, false}
+use Prim.Native.Nat.{_-_}
 use native.Mathlib.Omega.{arith}
 use borrow.Author.Tests.{not-true, not-false}
-use Rattle.record_short.specs.ShortRecords.{row-in, row-rises, has-weight}
+use Rattle.record_short.specs.ShortRecords.{row-rises, has-weight}
 use Rattle.record_short_check.proofs.TripleWalks.{So-far, walk-start, walk-more, walk-stops, walk-ends, low-row}
 use borrow.Author.Needs.{needs}
 use Rattle.record_short_check.proofs.triples_walked.Statement.{statement}

@@ -1,5 +1,4 @@
 -- `record_short_write::lengthen_into` meets its contract. Assumes nothing.
-use Prim.Native.Nat.{ℕ}
 use Rattle.record_short_write.proofs.LongRooms.{long-room}
 use borrow.Author.Needs.{needs}
 use Rattle.record_short_write.proofs.lengthen_into.Statement.{statement}

@@ -1,8 +1,6 @@
 -- `record_short_write::put_row` meets its contract. Assumes nothing.
-use mathlib.Core.Path.{_≡_, sym, ap, _∙_}
-use Prim.Native.Nat.{_+_, _*_, _≤_}
+use mathlib.Core.Path.{_≡_, sym, _∙_}
 use native.Mathlib.Omega.{arith}
-use lib.ListN.{length}
 use mathlib.Core.List.{[], _∷_}
 use Rattle.record_short_write.specs.Rooms.{listed}
 use Rattle.record_short_write.proofs.ShortRooms.{none-listed, one-listed, row-stays, row-put}
@@ -82,11 +80,10 @@ returns-2 c =
     let Y = Z .before in
     let s = start (Y .before) in
     let a = s .args in
-    let one = one (Y .before) in
-    (
+    let one = one (Y .before) in (
       rw one (omega arith),
       row-put (a .m) (a .bytes .now) (a .i) (a .at) _ _ (a .room .now) _ _ _ (omega (arith, s .pre .1 .1)) one (Y .u16-at .ensures .0) (Z .u16-at2 .ensures .0)
-      (first .put-u16 .ensures) (second .put-u162 .ensures) (last .put-u163 .ensures),
+          (first .put-u16 .ensures) (second .put-u162 .ensures) (last .put-u163 .ensures),
     )
 
 pub put-row-spec : {M : Type 1} → statement M

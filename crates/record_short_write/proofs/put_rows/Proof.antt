@@ -1,5 +1,5 @@
 -- `record_short_write::put_rows` meets its contract. Assumes nothing.
-use mathlib.Core.Path.{_≡_, refl, sym, _∙_}
+use mathlib.Core.Path.{_≡_, refl, _∙_}
 use Prim.Native.Nat.{_+_, _*_, _-_, _≤_}
 use native.Mathlib.Numerals.{add-one}
 use native.Mathlib.Omega.{arith}
@@ -47,13 +47,12 @@ loop-again c =
     let test = put .before .before in
     let l = test .before in
     let s = l .before .before .before in
-    let a = s .args in
-    (
+    let a = s .args in (
       omega (arith, test .loop-test .taken),
       omega (arith, l .loop .inv .1, put .put-row .kept .1 .1 .1 .0),
       put .put-row .ensures .0 ∙ rw (l .loop .inv .2, add-one (l .loop .i)) (omega (arith, rows-more (a .m) (a .bytes .now) (l .loop .i))),
       rows-next (a .m) (a .bytes .now) (a .room .now) (omega (arith, s .pre .1)) (l .loop .i) _
-      (rw (← l .loop .inv .2, ← l .loop .inv .3) (put .put-row .ensures .1)),
+          (rw (← l .loop .inv .2, ← l .loop .inv .3) (put .put-row .ensures .1)),
     )
 
 same-length : tie.Need-same-length Inv-loop μ-loop

@@ -1,5 +1,5 @@
 -- `record_short_write::put_triple` meets its contract. Assumes nothing.
-use mathlib.Core.Path.{_≡_, sym, _∙_}
+use mathlib.Core.Path.{_≡_, _∙_}
 use Prim.Native.Nat.{_+_, _*_, _<_}
 use native.Mathlib.Omega.{arith}
 use Rattle.record_short.specs.ShortRecords.{row-in, Y-in, Z-in}
@@ -43,7 +43,7 @@ u16-at-requires-3 c κs = search needs
 put-u16-requires : tie.Need-put-u16-requires
 put-u16-requires c κs =
     let Y = c .before .before in
-    (omega (arith, row-below (Y .before), Y .before .before .before .before .pre .1 .1), Y .u16-at2 .ensures .1)
+    (omega (arith, row-below (Y .before), Y .before .before .before .before .pre .1 .1), search needs)
 
 mul-put-u16 : tie.Need-mul-put-u16
 mul-put-u16 c = search needs
@@ -56,7 +56,7 @@ put-u16-requires-2 c κs =
     let put = c .before .before .before in
     let Z = put .before .before in
     let row = Z .before .before in
-    (omega (arith, row-below row, row .before .before .before .pre .1 .1, put .put-u16 .kept .0), Z .u16-at3 .ensures .1)
+    (omega (arith, row-below row, row .before .before .before .pre .1 .1, put .put-u16 .kept .0), search needs)
 
 same-length : tie.Need-same-length
 same-length c = search needs

@@ -58,7 +58,7 @@ returns-2 c =
     let found = right .before .before in
     let a = start right .args in
     let way = short-refused (a .bytes .now) (a .n) (a .m) (a .room .now) (found .check-certificate .result) (found .check-certificate .ensures) (right .if1 .left)
-        (rows .rows-counted .result) (rows .rows-counted .ensures) (c .before .if2 .taken) in
+    (rows .rows-counted .result) (rows .rows-counted .ensures) (c .before .if2 .taken) in
     (c .refused2 .ensures ∙ way .0, way .1)
 
 shorten-into-requires : tie.Need-shorten-into-requires
