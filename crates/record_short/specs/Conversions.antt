@@ -1,6 +1,6 @@
--- 02, Q-6: "Old rankings are moved to kind 7 and back." What the two calls answer and what the room holds afterwards, on every byte string,
--- pair of arguments and room: the refusals of a reading, kind 2 alone wanted for shortening and kind 7 for lengthening, then 7 with the bytes
--- needed. The ranking need not be accepted.
+-- 02, Q-6: "Old rankings are moved to kind 7 and back." What the two calls answer and what the room holds afterwards, on every byte
+-- string, pair of arguments and room: the refusals of a reading, kind 2 alone wanted for shortening and kind 7 for lengthening,
+-- then 7 with the bytes needed. The ranking need not be accepted.
 use Prim.Native.Nat.{ℕ, zero, suc, _+_, _*_}
 use mathlib.Core.Bool.{Bool, true, false, cond, not, _&&_}
 use mathlib.Core.List.{List, [], _∷_, _++_}

@@ -1,6 +1,6 @@
--- 02, Q-6: "Most multipliers are zero. Add kind 7: a count c (u16), then c triples of row, Y, Z (u16 each), rows counted from 0 and strictly
--- rising, Y and Z not both zero. L = 4 + 6c." And what a short ranking stands for: the kind 2 record whose Y and Z of row i are those of the
--- triple with row i, and 0 where there is none.
+-- 02, Q-6: "Most multipliers are zero. Add kind 7: a count c (u16), then c triples of row, Y, Z (u16 each), rows counted from 0 and
+-- strictly rising, Y and Z not both zero. L = 4 + 6c." And what a short ranking stands for: the kind 2 record whose Y and Z of row
+-- i are those of the triple with row i, and 0 where there is none.
 use Prim.Native.Nat.{ℕ, zero, suc, _+_, _*_, _-_}
 use mathlib.Core.Bool.{Bool, cond, not, _&&_, _||_}
 use mathlib.Core.List.{List, [], _∷_, _++_}

@@ -1,6 +1,6 @@
--- What the public judge and bound answer, and what the rank list holds afterwards, on every pair of byte strings, every list and every state:
--- a short ranking (kind 7) with a loop of other kinds than 5 is judged as the record that it stands for; all else by the kinds of the records
--- as before (crate `verdict_settling`).
+-- What the public judge and bound answer, and what the rank list holds afterwards, on every pair of byte strings, every list and
+-- every state: a short ranking (kind 7) with a loop of other kinds than 5 is judged as the record that it stands for; all else by
+-- the kinds of the records as before (crate `verdict_settling`).
 use Prim.Native.Nat.{ℕ}
 use mathlib.Core.Bool.{Bool, cond, not, _&&_}
 use mathlib.Core.List.{List}

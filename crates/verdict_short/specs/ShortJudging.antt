@@ -1,5 +1,6 @@
--- 02, Q-6: "the verdict is that of the kind 2 record, place included unless the record itself is malformed. Judging and bound take kind 7
--- wherever they take kind 2." A short ranking whose record is sound for the loop's n and m is judged as the kind 2 record that it stands for.
+-- 02, Q-6: "the verdict is that of the kind 2 record, place included unless the record itself is malformed. Judging and bound take
+-- kind 7 wherever they take kind 2." A short ranking whose record is sound for the loop's n and m is judged as the kind 2 record
+-- that it stands for.
 use Prim.Native.Nat.{ℕ}
 use mathlib.Core.Bool.{Bool, cond}
 use mathlib.Core.List.{List, [], _∷_}
