@@ -37,8 +37,8 @@ abbrev pub HoldBefore : ℕ → List ℤ → ℤ → List ℤ → ℤ → ℕ �
 HoldBefore count ys ylift zs zlift n =
     Throughout count
     (λ j. (holds-at 21 ys ylift zs zlift n j ≡ true)
-        × (holds-at 22 ys ylift zs zlift n j ≡ true)
-        × (holds-at 23 ys ylift zs zlift n j ≡ true))
+    × (holds-at 22 ys ylift zs zlift n j ≡ true)
+    × (holds-at 23 ys ylift zs zlift n j ≡ true))
 
 -- what is told of one of them, and of all three
 unfoldable pub column-told : ℕ → List ℤ → ℤ → List ℤ → ℤ → ℕ → Told
