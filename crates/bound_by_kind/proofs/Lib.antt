@@ -1,2 +1,3 @@
 pub mod BoundWays
+pub mod AnswerWays
 pub mod OneAnswer

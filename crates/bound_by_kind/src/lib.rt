@@ -6,7 +6,8 @@ ghost use Prim.Native.Nat.{_+_, _*_, _≤_, _<_};
 ghost use lib.IntN.{natAbs, _-ℤ_};
 ghost use lib.Signed.{ltZ};
 ghost use lib.ListN.{length};
-ghost use Rattle.verdict_settling.specs.AnswersByKind.{bounding-of, bounded-by-kind};
+ghost use Rattle.verdict_settling.specs.AnswersByKind.{bounding-of};
+ghost use Rattle.verdict_short.specs.Answers.{bounded-answered};
 ghost use Rattle.verdict_settling.specs.SettlingJudging.{settling-bounds};
 ghost use Rattle.judge.specs.SoundPairs.{LoopSound};
 ghost use Rattle.bound_by_kind.specs.SettlingBounded.{StateIn, steps-held, settled};
@@ -95,10 +96,10 @@ fn bound_settling(loopbytes: &[u8], certificate: &[u8], state: &[i64]) -> Bounde
 
 // The bound on steps from a state, by a certificate's bytes for a loop's bytes.
 pub fn bound(loopbytes: &[u8], certificate: &[u8], state: &[i64]) -> Bounded
-    ensures { λ r. ⌜ r ≡ bounded-by-kind (now (loopbytes .entry)) (now (certificate .entry)) (now (state .entry)) ⌝ }
+    ensures { λ r. ⌜ r ≡ bounded-answered (now (loopbytes .entry)) (now (certificate .entry)) (now (state .entry)) ⌝ }
 {
     if judge_settling::is_settling(certificate) {
         return bound_settling(loopbytes, certificate, state);
     }
-    judge_bound::bound(loopbytes, certificate, state)
+    bound_short::bound(loopbytes, certificate, state)
 }

@@ -1,3 +1,4 @@
 pub mod SettlingWays
 pub mod KindWays
+pub mod AnswerWays
 pub mod OneAnswer

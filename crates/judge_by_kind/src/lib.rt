@@ -6,7 +6,7 @@ ghost use lib.Dec.{leb};
 ghost use lib.ListN.{length};
 ghost use Rattle.verdict_paths.specs.JudgingByLoop.{of-paths};
 ghost use Rattle.verdict_paths.specs.PathJudging.{path-judges};
-ghost use Rattle.verdict_settling.specs.AnswersByKind.{judged-by-kind, rank-by-kind};
+ghost use Rattle.verdict_short.specs.Answers.{answered, rank-answered};
 ghost use Rattle.judge.specs.SoundPairs.{LoopSound};
 ghost use Rattle.judge_by_kind.specs.SettlingShown.{settling-shown, SettlingJudged};
 use judge_ranking::Ranked;
@@ -89,8 +89,8 @@ fn judge_settling(loopbytes: &[u8], certificate: &[u8], rank: &mut [i64]) -> Ver
 
 // Judges a certificate's bytes for a loop's bytes.
 pub fn judge(loopbytes: &[u8], certificate: &[u8], rank: &mut [i64]) -> Verdict
-    ensures { λ r. ⌜ r ≡ judged-by-kind (now (loopbytes .entry)) (now (certificate .entry)) (now (rank .entry)) ⌝ }
-    ensures { λ _. ⌜ now (rank .exit) ≡ rank-by-kind (now (loopbytes .entry)) (now (certificate .entry)) (now (rank .entry)) ⌝ }
+    ensures { λ r. ⌜ r ≡ answered (now (loopbytes .entry)) (now (certificate .entry)) (now (rank .entry)) ⌝ }
+    ensures { λ _. ⌜ now (rank .exit) ≡ rank-answered (now (loopbytes .entry)) (now (certificate .entry)) (now (rank .entry)) ⌝ }
 {
     if is_of_paths(loopbytes) {
         return judge_paths(loopbytes, certificate);
@@ -98,5 +98,5 @@ pub fn judge(loopbytes: &[u8], certificate: &[u8], rank: &mut [i64]) -> Verdict
     if judge_settling::is_settling(certificate) {
         return judge_settling(loopbytes, certificate, rank);
     }
-    judge::judge(loopbytes, certificate, rank)
+    judge_short::judge(loopbytes, certificate, rank)
 }

@@ -9,6 +9,10 @@ use Rattle.rip.proofs.cushiedoo_read_certificate.Kinds as read-certific
 use Rattle.rip.proofs.cushiedoo_read_certificate.Reads as read-certificate-reads
 use Rattle.rip.proofs.cushiedoo_write_record.Kinds as write-record
 use Rattle.rip.proofs.cushiedoo_write_record.Reads as write-record-reads
+use Rattle.rip.proofs.cushiedoo_shorten.Kinds as shorten
+use Rattle.rip.proofs.cushiedoo_shorten.Reads as shorten-reads
+use Rattle.rip.proofs.cushiedoo_lengthen.Kinds as lengthen
+use Rattle.rip.proofs.cushiedoo_lengthen.Reads as lengthen-reads
 use Rattle.rip.proofs.cushiedoo_judge.Kinds as judge
 use Rattle.rip.proofs.cushiedoo_judge.Reads as judge-reads
 use Rattle.rip.proofs.cushiedoo_bound.Kinds as bound
@@ -27,6 +31,14 @@ one-answer-read-certificate κs a x y s t p q = (p .0 ∙ sym (q .0), p .1 ∙ s
 -- lent: the room
 pub one-answer-write-record : Single 2 write-record.ps write-record.r write-record-reads.Learnt (λ κs s. now (s .1 .1 .1 .1 .0))
 one-answer-write-record κs a x y s t p q = (p .0 ∙ sym (q .0), p .1 ∙ sym (q .1))
+
+-- lent: the room
+pub one-answer-shorten : Single 2 shorten.ps shorten.r shorten-reads.Learnt (λ κs s. now (s .1 .1 .1 .0))
+one-answer-shorten κs a x y s t p q = (p .0 ∙ sym (q .0), p .1 ∙ sym (q .1))
+
+-- lent: the room
+pub one-answer-lengthen : Single 2 lengthen.ps lengthen.r lengthen-reads.Learnt (λ κs s. now (s .1 .1 .1 .0))
+one-answer-lengthen κs a x y s t p q = (p .0 ∙ sym (q .0), p .1 ∙ sym (q .1))
 
 -- lent: the rank list
 pub one-answer-judge : Single 3 judge.ps judge.r judge-reads.Learnt (λ κs s. now (s .1 .1 .0))

@@ -9,7 +9,8 @@ use verdict::Verdict;
 ghost use mathlib.Core.Path.{_≡_};
 ghost use Rattle.record.specs.Readers.{loop-reader, certificate-reader, reads, fills};
 ghost use Rattle.record.specs.Writers.{writer, writes, room-after};
-ghost use Rattle.verdict_settling.specs.AnswersByKind.{judged-by-kind, rank-by-kind, bounded-by-kind};
+ghost use Rattle.record_short.specs.Conversions.{shortens, shortened-room, lengthens, lengthened-room};
+ghost use Rattle.verdict_short.specs.Answers.{answered, rank-answered, bounded-answered};
 ghost use Rattle.sheet_text.specs.Sheets.{sheet-answers, room-after as text-after};
 ghost use Rattle.rip.specs.Flat.{flat-reading, flat-writing, told, flat-verdict, flat-bounded};
 
@@ -173,6 +174,34 @@ pub extern "C" fn cushiedoo_write_record(
     flat_writing(record_write::write_record(kind, n, m, values, room))
 }
 
+// Moves a ranking from kind 2 to kind 7.
+#[no_mangle]
+pub extern "C" fn cushiedoo_shorten(
+    ranking: &[u8],
+    n: usize,
+    m: usize,
+    room: &mut [u8],
+) -> FlatWriting
+    ensures { λ r. ⌜ r ≡ flat-writing (shortens (now (ranking .entry)) n m (now (room .entry))) ⌝ }
+    ensures { λ _. ⌜ now (room .exit) ≡ shortened-room (now (ranking .entry)) n m (now (room .entry)) ⌝ }
+{
+    flat_writing(record_short_write::shorten(ranking, n, m, room))
+}
+
+// Moves a ranking from kind 7 to kind 2.
+#[no_mangle]
+pub extern "C" fn cushiedoo_lengthen(
+    ranking: &[u8],
+    n: usize,
+    m: usize,
+    room: &mut [u8],
+) -> FlatWriting
+    ensures { λ r. ⌜ r ≡ flat-writing (lengthens (now (ranking .entry)) n m (now (room .entry))) ⌝ }
+    ensures { λ _. ⌜ now (room .exit) ≡ lengthened-room (now (ranking .entry)) n m (now (room .entry)) ⌝ }
+{
+    flat_writing(record_short_write::lengthen(ranking, n, m, room))
+}
+
 // ---- verdicts
 
 // Judges a certificate's bytes for a loop's bytes.
@@ -182,8 +211,8 @@ pub extern "C" fn cushiedoo_judge(
     certificate: &[u8],
     rank: &mut [i64],
 ) -> FlatVerdict
-    ensures { λ r. ⌜ r ≡ flat-verdict (judged-by-kind (now (loopbytes .entry)) (now (certificate .entry)) (now (rank .entry))) ⌝ }
-    ensures { λ _. ⌜ now (rank .exit) ≡ rank-by-kind (now (loopbytes .entry)) (now (certificate .entry)) (now (rank .entry)) ⌝ }
+    ensures { λ r. ⌜ r ≡ flat-verdict (answered (now (loopbytes .entry)) (now (certificate .entry)) (now (rank .entry))) ⌝ }
+    ensures { λ _. ⌜ now (rank .exit) ≡ rank-answered (now (loopbytes .entry)) (now (certificate .entry)) (now (rank .entry)) ⌝ }
 {
     flat_verdict(judge_by_kind::judge(loopbytes, certificate, rank))
 }
@@ -195,7 +224,7 @@ pub extern "C" fn cushiedoo_bound(
     certificate: &[u8],
     state: &[i64],
 ) -> FlatBounded
-    ensures { λ r. ⌜ r ≡ flat-bounded (bounded-by-kind (now (loopbytes .entry)) (now (certificate .entry)) (now (state .entry))) ⌝ }
+    ensures { λ r. ⌜ r ≡ flat-bounded (bounded-answered (now (loopbytes .entry)) (now (certificate .entry)) (now (state .entry))) ⌝ }
 {
     flat_bounded(bound_by_kind::bound(loopbytes, certificate, state))
 }

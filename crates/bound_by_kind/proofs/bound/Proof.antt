@@ -5,7 +5,7 @@ use lib.ListN.{length}
 use borrow.Author.Needs.{needs}
 use Rattle.refusal.proofs.TestLaws.{both-true}
 use Rattle.verdict_settling.specs.AnswersByKind.{of-settling}
-use Rattle.bound_by_kind.proofs.BoundWays.{as-settling, as-others}
+use Rattle.bound_by_kind.proofs.AnswerWays.{as-settling, as-others}
 use Rattle.bound_by_kind.proofs.bound.Statement.{statement}
 use Rattle.bound_by_kind.proofs.bound.Tie as tie
 

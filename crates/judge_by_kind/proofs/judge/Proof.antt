@@ -7,7 +7,7 @@ use borrow.Author.Needs.{needs}
 use Rattle.refusal.proofs.TestLaws.{both-true}
 use Rattle.verdict_paths.specs.JudgingByLoop.{of-paths}
 use Rattle.verdict_settling.specs.AnswersByKind.{of-settling}
-use Rattle.judge_by_kind.proofs.KindWays.{as-paths, as-settling, as-others}
+use Rattle.judge_by_kind.proofs.AnswerWays.{as-paths, as-settling, as-others}
 use Rattle.judge_by_kind.proofs.judge.Statement.{statement}
 use Rattle.judge_by_kind.proofs.judge.Tie as tie
 
