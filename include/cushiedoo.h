@@ -12,9 +12,9 @@
  * call changes nothing. No call keeps a pointer or touches anything but its lists, so calls may run at once.
  *
  * Ranges. Variables n: 1 to 16. Loop rows m (of each path) and stem rows ms: 0 to 64 each. Paths of a loop: 1 to 8, and
- * components of an argument for them too. Right sides b, d and s0 and the threshold t: 2,000,000,000 either way.
- * Entries of a state: 1,000,000 either way. docs/FORMAT.md has those of the other values. No start or fall is beyond
- * 7,800,000,000,000,000 either way.
+ * components of an argument for them too. Triples of a short ranking: 0 to 64. Right sides b, d and s0 and the
+ * threshold t: 2,000,000,000 either way. Entries of a state: 1,000,000 either way. docs/FORMAT.md has those of the other
+ * values. No start or fall is beyond 7,800,000,000,000,000 either way.
  *
  * Refusals. Every answer starts with a number and a place:
  *
@@ -27,6 +27,7 @@
  *   CUSHIEDOO_KIND       4  kind not wanted here                                   4
  *   CUSHIEDOO_COUNT      5  count out of range                                     its first byte; 0 if n or m came as
  *                                                                                  an argument for kinds 2 to 4
+ *                                                                                  and 7
  *   CUSHIEDOO_VALUE      6  value out of range, the first in layout order          its first byte
  *   CUSHIEDOO_ROOM       7  room too small                                         room needed
  *   CUSHIEDOO_FAILS      8  no longer given: 21 to 63 say which condition fails
@@ -35,6 +36,9 @@
  *   CUSHIEDOO_OUTSIDE   11  lasso state outside the invariant                      0
  *   CUSHIEDOO_LIST      12  value list of the wrong length                         length needed (1 if ms is absent)
  *   CUSHIEDOO_COMPONENT 14  component number that doesn't exist, the first         its first byte
+ *   CUSHIEDOO_ROW       15  row of a short ranking not below m, or not above the   the triple's first byte
+ *                           row before it
+ *   CUSHIEDOO_ZEROS     16  Y and Z of a short ranking's row are both zero         the triple's first byte
  *
  * Conditions. A certificate that fails one is refused with the condition's number. Columns, rows and paths count from
  * 0; a column stands for a variable. All places of one condition come before the next condition, but 51 to 53 are told
@@ -93,17 +97,19 @@ enum {
     CUSHIEDOO_ENTRIES = 10,
     CUSHIEDOO_OUTSIDE = 11,
     CUSHIEDOO_LIST = 12,
-    CUSHIEDOO_COMPONENT = 14
+    CUSHIEDOO_COMPONENT = 14,
+    CUSHIEDOO_ROW = 15,
+    CUSHIEDOO_ZEROS = 16
 };
 
 /* The record that a verdict speaks of. */
 enum {
     CUSHIEDOO_NEITHER = 0,    /* done, 7, 9 and 10 */
     CUSHIEDOO_LOOP = 1,       /* 1 to 6 in the loop record */
-    CUSHIEDOO_CERTIFICATE = 2 /* 1 to 6 and 14 in the certificate; 11; a condition's number */
+    CUSHIEDOO_CERTIFICATE = 2 /* 1 to 6 and 14 to 16 in the certificate; 11; a condition's number */
 };
 
-/* The outcome of a verdict: the kind of the certificate that gave it. */
+/* The outcome of a verdict: the kind of the certificate that gave it; of a short ranking (kind 7) that of a ranking. */
 enum {
     CUSHIEDOO_NOTHING = 0,       /* refused */
     CUSHIEDOO_RANKING = 2,       /* with start and fall */
@@ -190,6 +196,23 @@ cushiedoo_writing cushiedoo_write_record(uint64_t kind, uint64_t n, uint64_t m, 
                                          size_t values_len, uint8_t *room, size_t room_len);
 
 /*
+ * Writes a ranking (kind 2) of a loop with n variables and m rows as a short one (kind 7): a count c, then for each row
+ * whose Y and Z are not both zero the row, from 0, its Y and its Z; 8 + 6c bytes. It need not be one that is accepted.
+ * Refusals: those of cushiedoo_read_certificate with kind 2 alone wanted, and 7 last, with the bytes needed.
+ */
+cushiedoo_writing cushiedoo_shorten(const uint8_t *ranking, size_t ranking_len, uint64_t n, uint64_t m, uint8_t *room,
+                                    size_t room_len);
+
+/*
+ * Writes a short ranking (kind 7) as the ranking (kind 2) that it stands for: rows that it does not name have zeros. That
+ * takes 6 + 4m bytes. Going there and back, from either kind, gives the first bytes again. Refusals, in this order: 1, 3
+ * (L below 2), 1, 2, 4 (kind 7 alone is wanted), 5 (n and m as arguments), 3 (L below 4), 5 (c over 64), 3, then triple
+ * by triple 15 and 16, then 6 over all triples, 7.
+ */
+cushiedoo_writing cushiedoo_lengthen(const uint8_t *ranking, size_t ranking_len, uint64_t n, uint64_t m, uint8_t *room,
+                                     size_t room_len);
+
+/*
  * Writes the text that the program "sheet" prints for an input: one loop record, then certificate records to the end.
  * The only refusal is 7. The room that its place tells is 47 * min(input_len, 65,536) + 306 bytes: it depends on the
  * length of the input alone and is enough for every input of that length. A call with an empty room is a cheap way to
@@ -200,8 +223,10 @@ cushiedoo_writing cushiedoo_sheet(const uint8_t *input, size_t input_len, uint8_
 /*
  * Judges a certificate for a loop. On acceptance of a ranking, a lasso or a settling the first n numbers of the rank
  * list are r; an exclusion needs and touches none. Refusals: those of the loop record, those of the certificate, 7 (kinds
- * 2, 4 and 8 only), those of the conditions, in this order. A settling (kind 8) is taken by this call and by
- * cushiedoo_bound alone.
+ * 2, 4, 7 and 8 only), those of the conditions, in this order. A settling (kind 8) is taken by this call and by
+ * cushiedoo_bound alone. A short ranking (kind 7) is taken wherever a ranking is judged, on a sheet too, but not by the
+ * reader and the writer. Its record is tested in the order of cushiedoo_lengthen; if it is sound, the verdict is that of
+ * the ranking that it stands for.
  *
  * A loop of several paths (kind 5) and a lexicographic argument (kind 6) are judged only together: with another record
  * either gives 4 of the certificate. They need and touch no rank list. Their counts stand in two places, and 3 is told
@@ -212,11 +237,11 @@ cushiedoo_verdict cushiedoo_judge(const uint8_t *loop, size_t loop_len, const ui
                                   size_t certificate_len, int64_t *rank, size_t rank_len);
 
 /*
- * Judges a ranking or a lasso and tells how many steps a run from the state can take at most. For a lasso that is
- * promised for runs whose first state follows a step of the stem. Of a settling it tells how many steps at most a run
- * takes before g.x has reached t: t - g.x, or 0 if that is negative. How many follow is not told. Refusals: those of the
- * loop record (kind 5 gives 4), those of the certificate (kinds 3 and 6 give 4), 10, 9, those of the conditions, 11 (of
- * a lasso), in this order.
+ * Judges a ranking, long or short, or a lasso and tells how many steps a run from the state can take at most. For a
+ * lasso that is promised for runs whose first state follows a step of the stem. Of a settling it tells how many steps at
+ * most a run takes before g.x has reached t: t - g.x, or 0 if that is negative. How many follow is not told. Refusals:
+ * those of the loop record (kind 5 gives 4), those of the certificate (kinds 3 and 6 give 4), 10, 9, those of the
+ * conditions, 11 (of a lasso), in this order.
  */
 cushiedoo_bounded cushiedoo_bound(const uint8_t *loop, size_t loop_len, const uint8_t *certificate,
                                   size_t certificate_len, const int64_t *state, size_t state_len);

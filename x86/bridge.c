@@ -125,6 +125,18 @@ cushiedoo_writing cushiedoo_write_record(uint64_t kind, uint64_t n, uint64_t m, 
     return CALL(WRITE_RECORD, NUMBER(kind), NUMBER(n), NUMBER(m), READ(values), LENT(room)).writing;
 }
 
+cushiedoo_writing cushiedoo_shorten(const uint8_t *ranking, size_t ranking_len, uint64_t n, uint64_t m, uint8_t *room,
+                                    size_t room_len)
+{
+    return CALL(SHORTEN, READ(ranking), NUMBER(n), NUMBER(m), LENT(room)).writing;
+}
+
+cushiedoo_writing cushiedoo_lengthen(const uint8_t *ranking, size_t ranking_len, uint64_t n, uint64_t m, uint8_t *room,
+                                     size_t room_len)
+{
+    return CALL(LENGTHEN, READ(ranking), NUMBER(n), NUMBER(m), LENT(room)).writing;
+}
+
 cushiedoo_writing cushiedoo_sheet(const uint8_t *input, size_t input_len, uint8_t *text, size_t text_len)
 {
     return CALL(SHEET, READ(input), LENT(text)).writing;

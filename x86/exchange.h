@@ -9,7 +9,7 @@
 #include "cushiedoo.h"
 
 /* The calls. */
-enum { READ_LOOP, READ_CERTIFICATE, WRITE_RECORD, SHEET, JUDGE, BOUND };
+enum { READ_LOOP, READ_CERTIFICATE, WRITE_RECORD, SHORTEN, LENGTHEN, SHEET, JUDGE, BOUND };
 
 typedef union {
     cushiedoo_reading reading;

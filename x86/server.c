@@ -26,6 +26,8 @@ static int made(uint8_t *memory)
     case READ_LOOP: a->reading = cushiedoo_read_loop(BYTES(0), NUMBERS(1)); break;
     case READ_CERTIFICATE: a->reading = cushiedoo_read_certificate(BYTES(0), NUMBER(1), NUMBER(2), NUMBERS(3)); break;
     case WRITE_RECORD: a->writing = cushiedoo_write_record(NUMBER(0), NUMBER(1), NUMBER(2), NUMBERS(3), BYTES(4)); break;
+    case SHORTEN: a->writing = cushiedoo_shorten(BYTES(0), NUMBER(1), NUMBER(2), BYTES(3)); break;
+    case LENGTHEN: a->writing = cushiedoo_lengthen(BYTES(0), NUMBER(1), NUMBER(2), BYTES(3)); break;
     case SHEET: a->writing = cushiedoo_sheet(BYTES(0), BYTES(1)); break;
     case JUDGE: a->verdict = cushiedoo_judge(BYTES(0), BYTES(1), NUMBERS(2)); break;
     case BOUND: a->bounded = cushiedoo_bound(BYTES(0), BYTES(1), NUMBERS(2)); break;

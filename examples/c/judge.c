@@ -63,6 +63,8 @@ static const char *meaning(uint64_t number)
         "value list of the wrong length",
     };
     if (number == CUSHIEDOO_COMPONENT) return "component number that doesn't exist";
+    if (number == CUSHIEDOO_ROW) return "row of a short ranking not below m, or not rising";
+    if (number == CUSHIEDOO_ZEROS) return "Y and Z of a short ranking's row are both zero";
     return number < COUNT(meanings) ? meanings[number] : failing(number);
 }
 

@@ -1,6 +1,6 @@
 //! The cases: for each call of the archive, inputs of every kind, valid, damaged, at and past the limits, and with
 //! conditions that just hold, just fail, or fail together. Those with loops of several paths stand in `path_cases`, those with
-//! settlings in `settling_cases`.
+//! settlings in `settling_cases`, those with short rankings in `short_cases`.
 
 use crate::construct::{self, Built, Inequality, Style};
 use crate::damage::{any_record, any_values, damage, limits};
@@ -15,6 +15,7 @@ use crate::path_cases;
 use crate::random::Random;
 use crate::right_sides;
 use crate::settling_cases;
+use crate::short_cases;
 
 /// The room that a sheet is lent: measured by what a call with an empty room tells.
 #[derive(Clone, Copy, Debug)]
@@ -23,6 +24,25 @@ pub enum SheetRoom {
     OneShort,
     /// Enough, and so many places more.
     Enough(usize),
+}
+
+/// What a ranking is moved to.
+#[derive(Clone, Copy, Debug, PartialEq, Eq)]
+pub enum Move {
+    /// From kind 2 to kind 7.
+    Short,
+    /// From kind 7 to kind 2.
+    Long,
+}
+
+impl Move {
+    /// The way back.
+    pub fn back(self) -> Move {
+        match self {
+            Move::Short => Move::Long,
+            Move::Long => Move::Short,
+        }
+    }
 }
 
 /// One call with its input. `room` is the number of places in the list that it is lent.
@@ -43,6 +63,21 @@ pub enum Case {
         n: u64,
         m: u64,
         values: Vec<i64>,
+        room: usize,
+    },
+    Move {
+        to: Move,
+        bytes: Vec<u8>,
+        n: u64,
+        m: u64,
+        room: usize,
+    },
+    /// A ranking that is moved and then moved back. The way there has room enough, the way back is lent the list.
+    ThereAndBack {
+        to: Move,
+        bytes: Vec<u8>,
+        n: u64,
+        m: u64,
         room: usize,
     },
     Sheet {
@@ -69,15 +104,16 @@ pub enum Case {
 
 /// The case that a generator gives.
 pub fn case(random: &mut Random) -> Case {
-    match random.below(100) {
+    match random.below(116) {
         0..=8 => read_loop(random),
         9..=17 => read_certificate(random),
         18..=26 => write_record(random),
         27..=32 => sheet(random),
         33..=52 => judge(random),
         53..=68 => bound(random),
-        69..=81 => path_cases::case(random),
-        _ => settling_cases::case(random),
+        69..=83 => path_cases::case(random),
+        84..=102 => settling_cases::case(random),
+        _ => short_cases::case(random),
     }
 }
 
@@ -419,6 +455,7 @@ fn some_kind_number(random: &mut Random, right: u64) -> u64 {
             0,
             5,
             6,
+            7,
             8,
             9,
             u64::MAX,
@@ -526,7 +563,7 @@ fn move_start(random: &mut Random, built: &mut Built, state: &[i64]) {
 }
 
 /// Lets a state be refused: of another length, or with entries at and past the limits.
-fn spoil_state(random: &mut Random, state: &mut Vec<i64>) {
+pub(crate) fn spoil_state(random: &mut Random, state: &mut Vec<i64>) {
     match random.below(5) {
         0 => drop(state.pop()),
         1 => state.push(random.signed(10)),
@@ -549,6 +586,11 @@ fn pair_and_state(random: &mut Random) -> (Pair, Vec<i64>) {
         3..=5 => Kind::Lasso,
         _ => Kind::Exclusion,
     };
+    pair_of_kind_and_state(random, kind)
+}
+
+/// The same, with a certificate of this kind.
+pub(crate) fn pair_of_kind_and_state(random: &mut Random, kind: Kind) -> (Pair, Vec<i64>) {
     let mut built = some_pair(random, kind);
     let mut state = some_state(random, built.pair.n);
     if let Certificate::Lasso(lasso) = &built.pair.certificate {

@@ -1,10 +1,10 @@
 //! One case, answered by the oracle and by the archive, and compared: every number told, and every entry of every list
 //! lent, which is filled with a pattern first and stands between guards.
 
-use crate::cases::{Case, SheetRoom};
+use crate::cases::{Case, Move, SheetRoom};
 use crate::oracle::judging::{self, Bounded, Verdict};
 use crate::oracle::record::{self, Reading, Writing};
-use crate::oracle::{sheet, Refusal};
+use crate::oracle::{sheet, short, Refusal};
 use cushiedoo::raw;
 use std::ops::Deref;
 
@@ -13,17 +13,22 @@ use std::ops::Deref;
 pub enum Told {
     Reading(Reading),
     Writing(Writing),
+    Writings([Writing; 2]),
     Verdict(Verdict),
     Verdicts([Verdict; 2]),
     Bounded(Bounded),
 }
 
 impl Told {
-    /// The refusal number and its place; of two verdicts those of the first.
+    /// The refusal number and its place; of two verdicts those of the first, of two writings those of the first refused.
     pub fn refusal(&self) -> Refusal {
         let (number, place) = match self {
             Told::Reading(reading) => (reading.number, reading.place),
             Told::Writing(writing) => (writing.number, writing.place),
+            Told::Writings(writings) => {
+                let told = first_refused(writings);
+                (told.number, told.place)
+            }
             Told::Verdict(verdict) | Told::Verdicts([verdict, _]) => {
                 (verdict.number, verdict.place)
             }
@@ -37,11 +42,19 @@ impl Told {
         match self {
             Told::Reading(reading) => (reading.number, 0),
             Told::Writing(writing) => (writing.number, 0),
+            Told::Writings(writings) => (first_refused(writings).number, 0),
             Told::Verdict(verdict) | Told::Verdicts([verdict, _]) => {
                 (verdict.number, verdict.record)
             }
             Told::Bounded(bounded) => (bounded.verdict.number, bounded.verdict.record),
         }
+    }
+}
+
+fn first_refused([first, second]: &[Writing; 2]) -> &Writing {
+    match first.number {
+        0 => second,
+        _ => first,
     }
 }
 
@@ -150,6 +163,28 @@ pub fn expected(case: &Case) -> Answer {
         } => bytes_lent(*room, |list| {
             Told::Writing(record::write_record(*kind, *n, *m, values, list))
         }),
+        Case::Move {
+            to,
+            bytes,
+            n,
+            m,
+            room,
+        } => bytes_lent(*room, |list| {
+            Told::Writing(paper_moves(*to, bytes, *n, *m, list))
+        }),
+        Case::ThereAndBack {
+            to,
+            bytes,
+            n,
+            m,
+            room,
+        } => bytes_lent(*room, |list| {
+            expected_back(
+                paper_moves(*to, bytes, *n, *m, &mut [0; LONGEST]),
+                bytes,
+                list,
+            )
+        }),
         Case::Sheet { input, room } => expected_sheet(input, *room),
         Case::Judge {
             loop_bytes,
@@ -198,6 +233,37 @@ pub fn archive(case: &Case, shift: usize) -> Answer {
             values,
             room,
         } => bytes_lent(*room, |list| archive_writes(*kind, *n, *m, values, list)),
+        Case::Move {
+            to,
+            bytes,
+            n,
+            m,
+            room,
+        } => {
+            let bytes = Unaligned::new(bytes, shift);
+            bytes_lent(*room, |list| {
+                Told::Writing(archive_moves(*to, &bytes, *n, *m, list))
+            })
+        }
+        Case::ThereAndBack {
+            to,
+            bytes,
+            n,
+            m,
+            room,
+        } => {
+            let bytes = Unaligned::new(bytes, shift);
+            let mut there = [0; LONGEST];
+            let first = archive_moves(*to, &bytes, *n, *m, &mut there);
+            bytes_lent(*room, |list| {
+                if first.number != 0 {
+                    return Told::Writings([first, Writing::default()]);
+                }
+                let there = Unaligned::new(&there[..first.written as usize], 7 - shift);
+                let second = archive_moves(to.back(), &there, *n, *m, list);
+                Told::Writings([first, second])
+            })
+        }
         Case::Sheet { input, room } => {
             let input = Unaligned::new(input, shift);
             let places = sheet_places(&input, *room);
@@ -252,6 +318,28 @@ fn bytes_lent(room: usize, call: impl FnOnce(&mut [u8]) -> Told) -> Answer {
         told,
         lent: Lent::Bytes(lending),
     }
+}
+
+/// Bytes enough for every ranking, long or short.
+const LONGEST: usize = 512;
+
+fn paper_moves(to: Move, bytes: &[u8], n: u64, m: u64, room: &mut [u8]) -> Writing {
+    match to {
+        Move::Short => short::shorten(bytes, n, m, room),
+        Move::Long => short::lengthen(bytes, n, m, room),
+    }
+}
+
+/// What the paper says of a way back, after a way there: the first bytes come again, if they have room.
+fn expected_back(first: Writing, bytes: &[u8], list: &mut [u8]) -> Told {
+    let mut second = Writing::default();
+    if first.number == 0 && list.len() < bytes.len() {
+        (second.number, second.place) = (7, bytes.len() as u64);
+    } else if first.number == 0 {
+        list[..bytes.len()].copy_from_slice(bytes);
+        second.written = bytes.len() as u64;
+    }
+    Told::Writings([first, second])
 }
 
 /// The room that the archive wants for a sheet, as a call with an empty room tells it.
@@ -343,6 +431,24 @@ fn archive_writes(kind: u64, n: u64, m: u64, values: &[i64], room: &mut [u8]) ->
             room.len(),
         )
     }))
+}
+
+fn archive_moves(to: Move, bytes: &[u8], n: u64, m: u64, room: &mut [u8]) -> Writing {
+    let call = match to {
+        Move::Short => raw::cushiedoo_shorten,
+        Move::Long => raw::cushiedoo_lengthen,
+    };
+    // SAFETY: both slices are valid for their lengths and stand apart.
+    writing(unsafe {
+        call(
+            bytes.as_ptr(),
+            bytes.len(),
+            n,
+            m,
+            room.as_mut_ptr(),
+            room.len(),
+        )
+    })
 }
 
 fn archive_sheet(input: &[u8], text: &mut [u8]) -> Writing {

@@ -3,10 +3,11 @@
 //!
 //! - [`oracle`] is the paper, plainly rendered; it leans on nothing else here.
 //! - [`construct`], [`damage`] and [`cases`] make the inputs from a seed; those with loops of several paths [`path_damage`]
-//!   and [`path_cases`], those with settlings [`settling_cases`].
+//!   and [`path_cases`], those with settlings [`settling_cases`], those with short rankings [`short_damage`] and
+//!   [`short_cases`].
 //! - [`compare`] calls the archive, and compares every number told and every entry of every list lent.
-//! - [`tally`] counts what came up ([`right_sides`], [`grades`], [`path_ways`] and [`settling_ways`] those of a case), and says
-//!   which quotas are not met.
+//! - [`tally`] counts what came up ([`right_sides`], [`grades`], [`path_ways`], [`settling_ways`] and [`short_ways`] those of a
+//!   case), and says which quotas are not met.
 
 pub mod cases;
 pub mod compare;
@@ -22,4 +23,7 @@ pub mod random;
 pub mod right_sides;
 pub mod settling_cases;
 pub mod settling_ways;
+pub mod short_cases;
+pub mod short_damage;
+pub mod short_ways;
 pub mod tally;

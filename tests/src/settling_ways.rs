@@ -125,8 +125,9 @@ pub fn ways_of(case: &Case, told: &Told) -> Vec<String> {
     let (number, record) = told.number_and_record();
     let Refusal { place, .. } = told.refusal();
     let (looped, certificate, state) = match (case, told) {
-        (Case::JudgeBoth { .. }, Told::Verdicts(verdicts)) => {
-            let both = verdicts.iter().all(|verdict| verdict.number == 0);
+        (Case::JudgeBoth { certificates, .. }, Told::Verdicts(verdicts)) => {
+            let settling = certificates.iter().any(|bytes| has_kind_8(bytes));
+            let both = settling && verdicts.iter().all(|verdict| verdict.number == 0);
             return Vec::from_iter(both.then(|| EXCLUDED_TOO.to_string()));
         }
         (

@@ -12,8 +12,12 @@
 //! Of settlings: 5 % of all cases are accepted; in judging and in bound each refusal number, each condition that fails and each
 //! bound 100 times, and a loop that has an exclusion too; and 50 times each way in which a condition fails, each range one past
 //! its ends, and the threshold at either end of its range.
+//!
+//! Of short rankings: 5 % of the cases with one are accepted by judging or bound; in these and in both conversions each refusal
+//! number 100 times, 15 and 16 as often at the first and at the last of several triples, and as often a round trip from either
+//! kind; and 50 times each way in which a record is refused, none and 64 triples, and each call or loop that doesn't take one.
 
-use crate::cases::Case;
+use crate::cases::{Case, Move};
 use crate::compare::{Answer, Lent, Told};
 use crate::construct::places;
 use crate::grades;
@@ -23,6 +27,7 @@ use crate::oracle::Refusal;
 use crate::path_ways;
 use crate::right_sides;
 use crate::settling_ways;
+use crate::short_ways;
 use std::collections::BTreeMap;
 
 /// The fewest times that anything must come up.
@@ -44,9 +49,11 @@ const LEAST_WIDE: u64 = 20;
 const LEAST_DEEP: u64 = 20;
 /// The fewest accepted settlings in a hundred of all cases.
 const LEAST_SETTLING: u64 = 5;
+/// The fewest accepted in a hundred of the cases with short rankings.
+const LEAST_SHORT: u64 = 5;
 
 /// What must come up, under the names that `Tally::count` gives.
-const QUOTAS: [(&str, &[&str]); 6] = [
+const QUOTAS: [(&str, &[&str]); 9] = [
     ("read_loop", &["kind 1", "1", "2", "3", "4", "5", "6", "7"]),
     (
         "read_certificate",
@@ -130,6 +137,9 @@ const QUOTAS: [(&str, &[&str]); 6] = [
             "7",
         ],
     ),
+    (short_ways::SHORTEN, &["done"]),
+    (short_ways::LENGTHEN, &["done"]),
+    (short_ways::BACK, &["done"]),
 ];
 
 /// The conditions that fail in a column or a row, and those on right sides.
@@ -294,6 +304,9 @@ impl Tally {
         for way in settling_ways::ways_of(case, &answer.told) {
             self.add(call, way);
         }
+        for way in short_ways::ways_of(case, &answer.told) {
+            self.add(call, way);
+        }
         for line in lines {
             self.add(call, line);
         }
@@ -316,8 +329,8 @@ impl Tally {
         }
     }
 
-    /// The shares of loops with several paths and of settlings: what, how often, of how many, and the least in a hundred.
-    fn shares(&self) -> [(&'static str, u64, u64, u64); 4] {
+    /// The shares of loops with several paths, of settlings and of short rankings: what, how often, of how many, and the least in a hundred.
+    fn shares(&self) -> [(&'static str, u64, u64, u64); 5] {
         let told = |call: &'static str, name: &str| {
             let name = (call, name.to_string());
             self.counts.get(&name).copied().unwrap_or(0)
@@ -326,6 +339,7 @@ impl Tally {
         let bounded = settling_ways::BOUNDS.iter().map(|name| told("bound", name));
         let settling = judged(settling_ways::ACCEPTED) + bounded.sum::<u64>();
         let accepted = judged(path_ways::ACCEPTED);
+        let short = |name: &str| short_ways::CALLS.iter().map(|call| told(call, name)).sum();
         [
             (
                 "accepted lexicographic",
@@ -346,6 +360,12 @@ impl Tally {
                 LEAST_DEEP,
             ),
             ("accepted settling", settling, self.cases, LEAST_SETTLING),
+            (
+                "accepted short",
+                short(short_ways::ACCEPTED),
+                short(short_ways::CASE),
+                LEAST_SHORT,
+            ),
         ]
     }
 
@@ -410,6 +430,9 @@ impl Tally {
         for (call, name, least) in settling_ways::quotas(LEAST_FAILING, LEAST_WAY) {
             ask(call, name, least);
         }
+        for (call, name, least) in short_ways::quotas(LEAST_FAILING, LEAST_WAY) {
+            ask(call, name, least);
+        }
         let mut share = |what: &str, count: u64, all: u64, least: u64| {
             if count * 100 < all * least {
                 unmet.push(format!("{what}: less than {least} %"));
@@ -438,6 +461,11 @@ fn call_name(case: &Case) -> &'static str {
         Case::ReadLoop { .. } => "read_loop",
         Case::ReadCertificate { .. } => "read_certificate",
         Case::WriteRecord { .. } => "write_record",
+        Case::Move { to, .. } => match to {
+            Move::Short => short_ways::SHORTEN,
+            Move::Long => short_ways::LENGTHEN,
+        },
+        Case::ThereAndBack { .. } => short_ways::BACK,
         Case::Sheet { .. } => "sheet",
         Case::Judge { .. } | Case::JudgeBoth { .. } => "judge",
         Case::Bound { .. } => "bound",

@@ -51,8 +51,8 @@ pub enum Fails {
 /// ```
 #[derive(Clone, Copy, Debug, PartialEq, Eq, Hash)]
 pub struct Refusal {
-    /// The number of the refusal: 1 to 12 without 8, which is no longer given, 14, or that of a condition that fails, 21 to
-    /// 24, 31, 32, 41 to 46, 51 to 53, 61 to 63.
+    /// The number of the refusal: 1 to 12 without 8, which is no longer given, 14 to 16, or that of a condition that fails,
+    /// 21 to 24, 31, 32, 41 to 46, 51 to 53, 61 to 63.
     pub number: u64,
     /// Its place; [`Refusal::place_meaning`] says of what.
     pub place: u64,
@@ -110,6 +110,14 @@ impl Refusal {
             14 => (
                 "component number that doesn't exist, the first",
                 "its first byte",
+            ),
+            15 => (
+                "row of a short ranking not below m, or not above the row before it",
+                "the triple's first byte",
+            ),
+            16 => (
+                "Y and Z of a short ranking's row are both zero",
+                "the triple's first byte",
             ),
             21 => ("YA' is not 0", COLUMN),
             22 => ("(Y - Z)A is not 0", COLUMN),
@@ -190,7 +198,8 @@ impl fmt::Display for Grade {
 /// What an accepted certificate shows of its loop.
 #[derive(Clone, Copy, Debug, PartialEq, Eq, Hash)]
 pub enum Outcome {
-    /// The loop ends: before each step r·x is at least `start`, and the step takes at least `fall` from it.
+    /// The loop ends: before each step r·x is at least `start`, and the step takes at least `fall` from it. A short ranking
+    /// shows it too.
     Ranking { start: i64, fall: i64 },
     /// No linear ranking function exists. The loop may end all the same.
     Exclusion { grade: Grade },

@@ -107,6 +107,59 @@ pub fn write_record(
     .into()
 }
 
+/// Writes a ranking (kind 2) of a loop with `n` variables and `m` rows as a short one (kind 7), which names the rows that have
+/// weight only, into the first places of `room`, and tells the bytes written: 8 + 6c for c such rows. [`judge`], [`bound`] and
+/// [`sheet`] take either. It is shorter exactly when 6c + 2 is below 4m.
+///
+/// ```
+/// use cushiedoo::{lengthen, shorten, write_record};
+///
+/// // Y = (1, 0, 0), Z = (0, 1, 1): every row has weight.
+/// let mut ranking = [0; 18];
+/// write_record(2, 2, 3, &[1, 0, 0, 0, 1, 1], &mut ranking)?;
+/// let mut short = [0; 26];
+/// assert_eq!(shorten(&ranking, 2, 3, &mut short)?, 26);
+/// let triples = [0, 0, 1, 0, 0, 0, 1, 0, 0, 0, 1, 0, 2, 0, 0, 0, 1, 0]; // each a row, its Y, its Z
+/// assert_eq!((&short[..8], &short[8..]), (&[22, 0, 0, 0, 7, 0, 3, 0][..], &triples[..]));
+///
+/// // The way back gives the first bytes again.
+/// let mut back = [0; 18];
+/// assert_eq!(lengthen(&short, 2, 3, &mut back)?, 18);
+/// assert_eq!(back, ranking);
+/// # Ok::<(), cushiedoo::Refusal>(())
+/// ```
+pub fn shorten(ranking: &[u8], n: u64, m: u64, room: &mut [u8]) -> Result<usize, Refusal> {
+    // SAFETY: both slices are valid for their lengths, and `room` is borrowed alone.
+    unsafe {
+        raw::cushiedoo_shorten(
+            ranking.as_ptr(),
+            ranking.len(),
+            n,
+            m,
+            room.as_mut_ptr(),
+            room.len(),
+        )
+    }
+    .into()
+}
+
+/// Writes a short ranking (kind 7) of a loop with `n` variables and `m` rows as the ranking (kind 2) that it stands for into
+/// the first places of `room`, and tells the bytes written: 6 + 4m.
+pub fn lengthen(ranking: &[u8], n: u64, m: u64, room: &mut [u8]) -> Result<usize, Refusal> {
+    // SAFETY: both slices are valid for their lengths, and `room` is borrowed alone.
+    unsafe {
+        raw::cushiedoo_lengthen(
+            ranking.as_ptr(),
+            ranking.len(),
+            n,
+            m,
+            room.as_mut_ptr(),
+            room.len(),
+        )
+    }
+    .into()
+}
+
 /// Writes the text that the program "sheet" prints for `input` into the first places of `text`, and tells its bytes.
 /// The only refusal is 7; the room that it tells, 47 * min(bytes, 65,536) + 306, is enough for every input of that length.
 pub fn sheet(input: &[u8], text: &mut [u8]) -> Result<usize, Refusal> {
@@ -133,8 +186,8 @@ pub fn sheet_text(input: &[u8]) -> String {
 }
 
 /// Judges a certificate for a loop. On acceptance of a ranking, a lasso or a settling (kind 8) the first n numbers of `rank`
-/// are r; an exclusion touches none. A loop of several paths (kind 5) and a lexicographic argument (kind 6) are judged only together
-/// and touch none.
+/// are r; an exclusion touches none. A short ranking (kind 7) has the verdict of the ranking that it stands for. A loop of several
+/// paths (kind 5) and a lexicographic argument (kind 6) are judged only together and touch none.
 ///
 /// ```
 /// use cushiedoo::{judge, Outcome};
@@ -168,7 +221,7 @@ pub fn judge(loop_record: &[u8], certificate: &[u8], rank: &mut [i64]) -> Verdic
     .into()
 }
 
-/// Judges a ranking or a lasso and tells how many steps a run from `state` can take at most; of a settling, how many it can
+/// Judges a ranking, long or short, or a lasso and tells how many steps a run from `state` can take at most; of a settling, how many it can
 /// take before g·x has reached t. An exclusion is refused with 4, and so is a loop of several paths or an argument for one.
 ///
 /// ```

@@ -76,6 +76,24 @@ extern "C" {
         room_len: usize,
     ) -> Writing;
 
+    pub fn cushiedoo_shorten(
+        ranking: *const u8,
+        ranking_len: usize,
+        n: u64,
+        m: u64,
+        room: *mut u8,
+        room_len: usize,
+    ) -> Writing;
+
+    pub fn cushiedoo_lengthen(
+        ranking: *const u8,
+        ranking_len: usize,
+        n: u64,
+        m: u64,
+        room: *mut u8,
+        room_len: usize,
+    ) -> Writing;
+
     pub fn cushiedoo_sheet(
         input: *const u8,
         input_len: usize,

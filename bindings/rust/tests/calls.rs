@@ -1,8 +1,8 @@
 //! The wrapper's calls on the scope paper's own samples: what they give, what they refuse, and what people read.
 
 use cushiedoo::{
-    bound, judge, read_certificate, read_loop, sheet, sheet_text, write_record, Bounded, Fails,
-    Grade, Outcome, Reading, Record, Refusal, Verdict,
+    bound, judge, lengthen, read_certificate, read_loop, sheet, sheet_text, shorten, write_record,
+    Bounded, Fails, Grade, Outcome, Reading, Record, Refusal, Verdict,
 };
 
 fn record(kind: u64, n: u64, m: u64, values: &[i64]) -> Vec<u8> {
@@ -150,7 +150,7 @@ fn every_number_has_words() {
     let given = [
         1..=7,
         9..=12,
-        14..=14,
+        14..=16,
         21..=24,
         31..=32,
         41..=46,
@@ -355,6 +355,101 @@ fn a_settling_goes_through_judging_and_bound_alone() {
     assert_eq!(write_record(8, 2, 5, &[], &mut []), Err(neither));
     let text = sheet_text(&[curve(), settling].concat());
     assert_eq!(text, "loop 2 5\n1 refused 4 4\n");
+}
+
+/// The first certificate as kind 7.
+const FIRST_SHORT: [u8; 26] = [
+    22, 0, 0, 0, 7, 0, 3, 0, // L, kind, triples
+    0, 0, 1, 0, 0, 0, 1, 0, 0, 0, 1, 0, 2, 0, 0, 0, 1, 0, // each a row, its Y, its Z
+];
+
+#[test]
+fn a_ranking_is_moved_to_kind_7_and_back() {
+    let mut room = [9; 28];
+    assert_eq!(shorten(&first_certificate(), 2, 3, &mut room), Ok(26));
+    assert_eq!((&room[..26], &room[26..]), (&FIRST_SHORT[..], &[9, 9][..]));
+    let mut room = [9; 20];
+    assert_eq!(lengthen(&FIRST_SHORT, 2, 3, &mut room), Ok(18));
+    assert_eq!((&room[..18], room[18]), (&first_certificate()[..], 9));
+    let refused = |number, place| {
+        Err(Refusal {
+            number,
+            place,
+            record: Record::Neither,
+        })
+    };
+    let mut room = [9; 25];
+    assert_eq!(
+        shorten(&first_certificate(), 2, 3, &mut room),
+        refused(7, 26)
+    );
+    assert_eq!(
+        lengthen(&FIRST_SHORT, 2, 3, &mut room[..17]),
+        refused(7, 18)
+    );
+    assert_eq!(shorten(&FIRST_SHORT, 2, 3, &mut room), refused(4, 4));
+    assert_eq!(
+        lengthen(&first_certificate(), 2, 3, &mut room),
+        refused(4, 4)
+    );
+    assert_eq!(lengthen(&FIRST_SHORT, 17, 3, &mut room), refused(5, 0));
+    assert_eq!(lengthen(&FIRST_SHORT, 2, 2, &mut room), refused(15, 20));
+    assert_eq!(room, [9; 25]);
+}
+
+#[test]
+fn a_short_ranking_is_judged_as_the_one_it_stands_for() {
+    let mut rank = [9; 3];
+    let outcome = Outcome::Ranking { start: 2, fall: 1 };
+    let verdict = judge(&loop_p(), &FIRST_SHORT, &mut rank);
+    assert_eq!((verdict, rank), (Verdict::Accepted(outcome), [1, -1, 9]));
+    assert_eq!(
+        bound(&loop_p(), &FIRST_SHORT, &[5, 1]),
+        Ok(Bounded { outcome, bound: 3 })
+    );
+    let none = [4, 0, 0, 0, 7, 0, 0, 0];
+    assert_eq!(failing(&loop_p(), &none).number, 24);
+    let text = sheet_text(&[&loop_p()[..], &FIRST_SHORT, &none].concat());
+    assert_eq!(
+        text,
+        "loop 2 3\n1 rank 1 -1 from 2 down 1\n2 refused 24 0\n"
+    );
+}
+
+#[test]
+fn a_short_ranking_s_triples_are_told_in_words() {
+    let mut again = FIRST_SHORT;
+    again[20] = 1;
+    assert_eq!(
+        failing(&loop_p(), &again).to_string(),
+        "refused 15, place 20 (the triple's first byte), in the certificate: row of a short ranking not below m, or not above the row before it"
+    );
+    let mut zeros = FIRST_SHORT;
+    zeros[10] = 0;
+    assert_eq!(
+        failing(&loop_p(), &zeros).to_string(),
+        "refused 16, place 8 (the triple's first byte), in the certificate: Y and Z of a short ranking's row are both zero"
+    );
+    assert_eq!(failing(&loop_p(), &zeros).fails(), None);
+}
+
+#[test]
+fn a_short_ranking_is_neither_read_nor_written() {
+    let unwanted = |record| Refusal {
+        number: 4,
+        place: 4,
+        record,
+    };
+    let neither = unwanted(Record::Neither);
+    assert_eq!(read_loop(&FIRST_SHORT, &mut []), Err(neither));
+    assert_eq!(read_certificate(&FIRST_SHORT, 2, 3, &mut []), Err(neither));
+    assert_eq!(write_record(7, 2, 3, &[], &mut []), Err(neither));
+    assert_eq!(
+        failing(&two_counters(), &FIRST_SHORT),
+        unwanted(Record::Certificate)
+    );
+    let looped = unwanted(Record::Loop);
+    assert_eq!(bound(&two_counters(), &FIRST_SHORT, &[1, 1]), Err(looped));
 }
 
 #[test]

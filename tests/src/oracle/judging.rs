@@ -6,6 +6,7 @@ use super::lexicographic::{Branches, Lexicographic};
 use super::paths::{lexicographic, path_loop, LEXICOGRAPHIC, PATH_LOOP};
 use super::record::{certificate_record, framed, loop_record, Record, CERTIFICATES};
 use super::settling::Settling;
+use super::short::{short_record, stands_for, SHORT};
 use super::{refuse, Refusal};
 
 /// What a record's values are, in the words of the conditions.
@@ -138,6 +139,20 @@ pub fn certificate(record: Record) -> Certificate {
     }
 }
 
+/// A certificate of one of the kinds wanted. Where kind 2 is wanted kind 7 is too, and is the ranking that it stands for.
+fn certificate_wanted(
+    bytes: &[u8],
+    wanted: &[Kind],
+    n: usize,
+    m: usize,
+) -> Result<Certificate, Refusal> {
+    if wanted.contains(&Kind::Ranking) && framed(bytes) == Ok(SHORT) {
+        let triples = short_record(bytes, n as u64, m as u64)?;
+        return Ok(Certificate::Ranking(stands_for(&triples, m)));
+    }
+    certificate_record(bytes, wanted, n as u64, m as u64).map(certificate)
+}
+
 /// The two records of a loop with one path, read: n, the rows and the certificate.
 fn both(
     loop_bytes: &[u8],
@@ -146,11 +161,8 @@ fn both(
 ) -> Result<(usize, Vec<Row>, Certificate), Refused> {
     let looped = of_record(1, loop_record(loop_bytes))?;
     let (n, m) = (looped.shape.n, looped.shape.m);
-    let record = of_record(
-        2,
-        certificate_record(certificate_bytes, wanted, n as u64, m as u64),
-    )?;
-    Ok((n, rows(looped), certificate(record)))
+    let certificate = of_record(2, certificate_wanted(certificate_bytes, wanted, n, m))?;
+    Ok((n, rows(looped), certificate))
 }
 
 fn ranked(kind: Kind, rank: &Rank) -> Verdict {
@@ -278,7 +290,7 @@ pub fn judge(loop_bytes: &[u8], certificate_bytes: &[u8], list: &mut [i64]) -> V
     judged.unwrap_or_else(refused)
 }
 
-/// On a sheet the kinds are those that are read.
+/// On a sheet the kinds are those that are read, and kind 7.
 pub fn judge_on_sheet(loop_bytes: &[u8], certificate_bytes: &[u8], list: &mut [i64]) -> Verdict {
     judged(loop_bytes, certificate_bytes, &CERTIFICATES, list).unwrap_or_else(refused)
 }

@@ -12,6 +12,7 @@ pub mod paths;
 pub mod record;
 pub mod settling;
 pub mod sheet;
+pub mod short;
 
 #[cfg(test)]
 mod path_samples;
@@ -19,6 +20,8 @@ mod path_samples;
 mod samples;
 #[cfg(test)]
 mod settling_samples;
+#[cfg(test)]
+mod short_samples;
 
 /// A refusal's number and its place.
 #[derive(Clone, Copy, Debug, PartialEq, Eq)]
