@@ -9,11 +9,16 @@ use lib.IntN.{ℤ}
 use lib.ListN.{length}
 use borrow.Author.Tests.{leb-false, eqb-true}
 use Rattle.endian.specs.Numbers.{littleAt}
+use Rattle.record.specs.Readers.{sound}
+use Rattle.refusal.specs.Tests.{done, refused, first}
 use Rattle.refusal.proofs.TestLaws.{either, both-true}
 use Rattle.verdict.specs.Judging.{judges, rank-after, judge-of}
+use Rattle.verdict.specs.Pairs.{loop-record}
+use Rattle.verdict.specs.Stages.{refusal-of}
 use Rattle.verdict.specs.declared.Verdict.{Verdict}
 use Rattle.verdict_paths.specs.JudgingByLoop.{of-paths}
 use Rattle.verdict_paths.specs.PathJudging.{path-judges}
+use Rattle.verdict_paths.proofs.PathDemands.{kind-1-by-rows}
 use Rattle.verdict_settling.specs.AnswersByKind.{of-settling, judged-by-kind, rank-by-kind}
 use Rattle.verdict_short.specs.Answers.{is-short, answered, rank-answered}
 use Rattle.verdict_short.specs.ShortJudging.{of-short, judged-or-short, ranked-or-short}
@@ -22,6 +27,7 @@ use Rattle.judge_settling.proofs.SettlingEntered.{short-refused, loop-alike}
 use Rattle.judge.proofs.JudgingWays as Rows
 use Rattle.judge_by_kind.specs.SettlingShown.{SettlingJudged}
 use Rattle.judge_by_kind.proofs.KindWays as Kinds
+use Rattle.judge_by_kind.proofs.SettlingWays.{at-loop}
 
 eight-not-short : (certificate : List ℕ) → of-settling certificate ≡ true → of-short certificate ≡ false
 unfolding of-settling of-short
@@ -93,3 +99,18 @@ module _ (loopbytes certificate : List ℕ) (lent : List ℤ) where
           either (is-short loopbytes certificate)
           (λ e. by-short e)
           (λ e. either (of-short certificate) (λ short. unkinded (leb-false 6 (length loopbytes) (no-kind e short)) e) (λ long. as-before long))
+
+    -- a loop record that is refused, whatever the certificate
+    pub as-refused : (k q : ℕ) → first sound (loop-record loopbytes) ≡ refused k q → Answers (refusal-of 1 k q) lent
+    as-refused k q told =
+        either (leb 6 (length certificate) && of-settling certificate)
+        (λ eight.
+        as-settling (both-true (leb 6 (length certificate)) (of-settling certificate) eight .1) (refusal-of 1 k q) lent (at-loop loopbytes certificate lent k q told))
+        (λ none.
+        let answers = as-others none in
+        let alike = loop-refused-alike loopbytes certificate k q told lent in
+        (sym (alike .0) ∙ answers .0, sym (alike .1) ∙ answers .1))
+
+-- a sound loop record of kind 1 is none of several paths
+pub sound-no-paths : (loopbytes : List ℕ) → first sound (loop-record loopbytes) ≡ done → (leb 6 (length loopbytes) && of-paths loopbytes) ≡ false
+sound-no-paths loopbytes told = rw (kind-1-by-rows loopbytes told) (either (leb 6 (length loopbytes)) (λ e. rw e) (λ e. rw e))

@@ -4,6 +4,9 @@ ghost use mathlib.Core.Path.{_≡_};
 ghost use mathlib.Core.Bool.{_&&_};
 ghost use lib.Dec.{leb};
 ghost use lib.ListN.{length};
+ghost use Rattle.record_paths.specs.PathFields.{bytes-alone};
+ghost use Rattle.record_paths.specs.PathLoops.{sound-paths};
+ghost use Rattle.refusal.specs.Tests.{done, first};
 ghost use Rattle.verdict_paths.specs.JudgingByLoop.{of-paths};
 ghost use Rattle.verdict_paths.specs.PathJudging.{path-judges};
 ghost use Rattle.verdict_short.specs.Answers.{answered, rank-answered};
@@ -13,14 +16,11 @@ use judge_ranking::Ranked;
 use verdict::Outcome;
 use verdict::Verdict;
 
-// A loop of several paths, kind 5, with a certificate of kind 6. It has no rank.
-fn judge_paths(loopbytes: &[u8], certificate: &[u8]) -> Verdict
+// Judges a certificate for a loop record of kind 5 that has been checked. There is no rank.
+pub fn judge_paths_sound(loopbytes: &[u8], certificate: &[u8]) -> Verdict
+    requires { ⌜ first sound-paths (bytes-alone (now loopbytes)) ≡ done ⌝ }
     ensures { λ r. ⌜ r ≡ path-judges (record { loopbytes = now (loopbytes .entry); certificate = now (certificate .entry) }) ⌝ }
 {
-    let loop_fault = record_paths_check::check_paths(loopbytes);
-    if loop_fault.number != 0 {
-        return judge::refused(1, loop_fault.number, loop_fault.place);
-    }
     let fault = record_paths_check::check_lexicographic(loopbytes, certificate);
     if fault.number != 0 {
         return judge::refused(2, fault.number, fault.place);
@@ -32,8 +32,19 @@ fn judge_paths(loopbytes: &[u8], certificate: &[u8]) -> Verdict
     judge::accepted(Outcome::Lexicographic)
 }
 
+// A loop of several paths, kind 5, with a certificate of kind 6.
+fn judge_paths(loopbytes: &[u8], certificate: &[u8]) -> Verdict
+    ensures { λ r. ⌜ r ≡ path-judges (record { loopbytes = now (loopbytes .entry); certificate = now (certificate .entry) }) ⌝ }
+{
+    let fault = record_paths_check::check_paths(loopbytes);
+    if fault.number != 0 {
+        return judge::refused(1, fault.number, fault.place);
+    }
+    judge_paths_sound(loopbytes, certificate)
+}
+
 // Whether the loop record has a kind, and it is 5.
-fn is_of_paths(loopbytes: &[u8]) -> bool
+pub fn is_of_paths(loopbytes: &[u8]) -> bool
     ensures { λ r. ⌜ r ≡ (leb 6 (length (now (loopbytes .entry))) && of-paths (now (loopbytes .entry))) ⌝ }
 {
     if loopbytes.len() < 6 {
@@ -76,15 +87,22 @@ fn settling_sound(
     settling_verdict(judge_settling::settling(loopbytes, judge::FIRST_ROW, n, m, certificate, rank))
 }
 
-// A certificate of kind 8. It has a rank.
-fn judge_settling(loopbytes: &[u8], certificate: &[u8], rank: &mut [i64]) -> Verdict
-    ensures { λ r. ⌜ SettlingJudged (now (loopbytes .entry)) (now (certificate .entry)) (now (rank .entry)) r (now (rank .exit)) ⌝ }
+// Judges a certificate for a loop record of kind 1 that has been checked.
+pub fn judge_sound(
+    loopbytes: &[u8],
+    n: usize,
+    m: usize,
+    certificate: &[u8],
+    rank: &mut [i64],
+) -> Verdict
+    requires { ⌜ LoopSound (now loopbytes) n m ⌝ }
+    ensures { λ r. ⌜ (r ≡ answered (now (loopbytes .entry)) (now (certificate .entry)) (now (rank .entry)))
+        × (now (rank .exit) ≡ rank-answered (now (loopbytes .entry)) (now (certificate .entry)) (now (rank .entry))) ⌝ }
 {
-    let said = record_check::check_loop(loopbytes);
-    if said.number != 0 {
-        return judge::refused(1, said.number, said.place);
+    if judge_settling::is_settling(certificate) {
+        return settling_sound(loopbytes, n, m, certificate, rank);
     }
-    settling_sound(loopbytes, said.n, said.m, certificate, rank)
+    judge_short::judge_sound(loopbytes, n, m, certificate, rank)
 }
 
 // Judges a certificate's bytes for a loop's bytes.
@@ -95,8 +113,9 @@ pub fn judge(loopbytes: &[u8], certificate: &[u8], rank: &mut [i64]) -> Verdict
     if is_of_paths(loopbytes) {
         return judge_paths(loopbytes, certificate);
     }
-    if judge_settling::is_settling(certificate) {
-        return judge_settling(loopbytes, certificate, rank);
+    let said = record_check::check_loop(loopbytes);
+    if said.number != 0 {
+        return judge::refused(1, said.number, said.place);
     }
-    judge_short::judge(loopbytes, certificate, rank)
+    judge_sound(loopbytes, said.n, said.m, certificate, rank)
 }

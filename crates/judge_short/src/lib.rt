@@ -42,15 +42,3 @@ pub fn judge_sound(
     record_short_write::lengthen_into(certificate, m, &mut long);
     judge::judge_sound(loopbytes, n, m, &long[..6 + 4 * m], rank)
 }
-
-// Judges a certificate for a loop record of kind 1.
-pub fn judge(loopbytes: &[u8], certificate: &[u8], rank: &mut [i64]) -> Verdict
-    ensures { λ r. ⌜ (r ≡ judged-or-short (now (loopbytes .entry)) (now (certificate .entry)) (now (rank .entry)))
-        × (now (rank .exit) ≡ ranked-or-short (now (loopbytes .entry)) (now (certificate .entry)) (now (rank .entry))) ⌝ }
-{
-    let said = record_check::check_loop(loopbytes);
-    if said.number != 0 {
-        return judge::refused(1, said.number, said.place);
-    }
-    judge_sound(loopbytes, said.n, said.m, certificate, rank)
-}

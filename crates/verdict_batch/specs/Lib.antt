@@ -1,0 +1,2 @@
+-- a job's certificates at once: what the call answers, and what the verdicts' row and the rank numbers hold afterwards
+pub mod Batches
