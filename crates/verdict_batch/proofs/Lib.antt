@@ -1,1 +1,2 @@
-
+pub mod RankLengths
+pub mod InTurn

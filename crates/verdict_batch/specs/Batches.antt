@@ -2,7 +2,7 @@
 -- equal judging them one by one in that order, with rank lists in consecutive stretches of n numbers". The records are parted as the sheet
 -- parts its input. "Refusals, after the loop record and before any judging: more than 32 records, 13, place the count; too few verdict
 -- places, 7; then fewer than n rank numbers a record, 7."
-use Prim.Native.Nat.{ℕ, _*_}
+use Prim.Native.Nat.{ℕ, _+_, _*_}
 use mathlib.Core.Bool.{cond}
 use mathlib.Core.List.{List, [], _∷_, _++_}
 use lib.Dec.{leb}
@@ -70,6 +70,13 @@ ranks-in-turn loopbytes [] ranks = ranks
 ranks-in-turn loopbytes (certificate ∷ certificates) ranks =
     rank-answered loopbytes certificate (take (variables loopbytes) ranks)
     ++ ranks-in-turn loopbytes certificates (drop (variables loopbytes) ranks)
+
+-- stretch i of the rank numbers, n each; and the numbers with another in its place
+unfoldable pub stretch : ℕ → ℕ → List ℤ → List ℤ
+stretch n i ranks = take n (drop (n * i) ranks)
+
+unfoldable pub with-stretch : ℕ → ℕ → List ℤ → List ℤ → List ℤ
+with-stretch n i other ranks = take (n * i) ranks ++ (other ++ drop (n * i + n) ranks)
 
 -- ---- the call
 
