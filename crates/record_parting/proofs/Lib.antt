@@ -1,2 +1,3 @@
 pub mod PartingLaws
 pub mod PartingReads
+pub mod PartingPlaces
