@@ -137,7 +137,13 @@ fn bound_ranked(
 }
 
 // A certificate and a state for a loop record that has been checked.
-pub fn bound_sound(loopbytes: &[u8], n: usize, m: usize, certificate: &[u8], state: &[i64]) -> Bounded
+pub fn bound_sound(
+    loopbytes: &[u8],
+    n: usize,
+    m: usize,
+    certificate: &[u8],
+    state: &[i64],
+) -> Bounded
     requires { ⌜ LoopSound (now loopbytes) n m ⌝ }
     ensures { λ r. ⌜ r ≡ bounds (bound-of (now (loopbytes .entry)) (now (certificate .entry)) (now (state .entry))) ⌝ }
 {

@@ -84,7 +84,7 @@ module _ (loopbytes : List ℕ) where
   pub one-turn : (i : ℕ) (certificates : List (List ℕ)) (ranks : List ℤ) → i < length certificates → n * length certificates ≤ length ranks
       → (stretch n i (so-far i certificates ranks) ≡ stretch n i ranks)
       × (so-far (suc i) certificates ranks
-          ≡ with-stretch n i (rank-answered loopbytes (getD certificates i []) (stretch n i ranks)) (so-far i certificates ranks))
+      ≡ with-stretch n i (rank-answered loopbytes (getD certificates i []) (stretch n i ranks)) (so-far i certificates ranks))
   unfolding ranks-in-turn
   one-turn i [] ranks less room = absurd (omega arith)
   one-turn zero (c ∷ certificates) ranks less room = (refl, first-turn c ranks)
@@ -99,8 +99,8 @@ module _ (loopbytes : List ℕ) where
       let rest = so-far i certificates (drop n ranks) in (
         stretch-behind front rest i long ∙ after .0 ∙ next-stretch i ranks,
         ap (λ xs. front ++ xs) (after .1)
-        ∙ sym (with-behind front rest (rank-answered loopbytes (getD certificates i []) (stretch n i (drop n ranks))) i long)
-        ∙ ap (λ xs. with-stretch n (suc i) (rank-answered loopbytes (getD certificates i []) xs) (front ++ rest)) (next-stretch i ranks),
+            ∙ sym (with-behind front rest (rank-answered loopbytes (getD certificates i []) (stretch n i (drop n ranks))) i long)
+            ∙ ap (λ xs. with-stretch n (suc i) (rank-answered loopbytes (getD certificates i []) xs) (front ++ rest)) (next-stretch i ranks),
       )
 
   -- ---- afterwards: each stretch as judging its record leaves it, and what is past the last as it was

@@ -1,0 +1,3 @@
+pub mod LoopsChecked
+pub mod BatchWays
+pub mod PartWays

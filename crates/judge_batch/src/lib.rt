@@ -1,0 +1,96 @@
+// A job's certificates at once: the loop is checked once, the room is asked for before anything is judged, and then each record is judged in turn
+// with its stretch of the rank numbers.
+use refusal::Fault;
+use verdict::Verdict;
+use verdict_batch::Batched;
+ghost use Prim.Native.Nat.{_+_, _*_, _-_, _≤_};
+ghost use mathlib.Core.Path.{_≡_};
+ghost use lib.ListN.{length, take, drop};
+ghost use Rattle.refusal.specs.Faults.{fault-of};
+ghost use Rattle.refusal.specs.Tests.{done};
+ghost use Rattle.verdict_short.specs.Answers.{answered, rank-answered};
+ghost use Rattle.verdict_batch.specs.Batches.{loop-told, variables, stretch, with-stretch, batch-of, batch-answers};
+
+// ---- the refusals
+
+// What the tests of a loop record tell, by its kind.
+fn check_loop(loopbytes: &[u8]) -> Fault
+    ensures { λ r. ⌜ r ≡ fault-of (loop-told (now (loopbytes .entry))) ⌝ }
+{
+    if judge_by_kind::is_of_paths(loopbytes) {
+        return record_paths_check::check_paths(loopbytes);
+    }
+    let said = record_check::check_loop(loopbytes);
+    Fault {
+        number: said.number,
+        place: said.place,
+    }
+}
+
+// A refusal of the whole batch: no record is judged.
+fn refused(about: usize, number: usize, place: usize) -> Batched
+    ensures { λ r. ⌜ r ≡ record { number = number; place = place; about = about; count = 0 } ⌝ }
+{
+    Batched {
+        number: number,
+        place: place,
+        about: about,
+        count: 0,
+    }
+}
+
+// What the call answers: a refusal, or how many records there are to judge.
+pub fn enter(loopbytes: &[u8], bytes: &[u8], places: usize, numbers: usize) -> Batched
+    ensures { λ r. ⌜ r ≡ batch-answers (batch-of (now (loopbytes .entry)) (now (bytes .entry)) places numbers) ⌝ }
+{
+    let fault = check_loop(loopbytes);
+    if fault.number != 0 {
+        return refused(1, fault.number, fault.place);
+    }
+    let count = record_parting::count(bytes);
+    if count > 32 {
+        return refused(0, 13, count);
+    }
+    if places < count {
+        return refused(0, 7, count);
+    }
+    let needed = endian::u16_at(loopbytes, 6) * count;
+    if numbers < needed {
+        return refused(0, 7, needed);
+    }
+    Batched {
+        number: 0,
+        place: 0,
+        about: 0,
+        count: count,
+    }
+}
+
+// ---- one record
+
+// Judges the record between two places, with stretch i of the rank numbers, for a loop that has been checked.
+pub fn judge_part(
+    loopbytes: &[u8],
+    bytes: &[u8],
+    from: usize,
+    end: usize,
+    i: usize,
+    ranks: &mut [i64],
+) -> Verdict
+    requires { ⌜ loop-told (now loopbytes) ≡ done ⌝ }
+    requires { ⌜ (from ≤ end) × (end ≤ length (now bytes)) ⌝ }
+    requires { ⌜ variables (now loopbytes) * i + variables (now loopbytes) ≤ length (now ranks) ⌝ }
+    ensures { λ r. ⌜ (r ≡ answered (now (loopbytes .entry)) (take (end - from) (drop from (now (bytes .entry)))) (stretch (variables (now (loopbytes .entry))) i (now (ranks .entry))))
+        × (now (ranks .exit) ≡ with-stretch (variables (now (loopbytes .entry))) i
+        (rank-answered (now (loopbytes .entry)) (take (end - from) (drop from (now (bytes .entry)))) (stretch (variables (now (loopbytes .entry))) i (now (ranks .entry))))
+        (now (ranks .entry))) ⌝ }
+{
+    let certificate = &bytes[from..end];
+    if judge_by_kind::is_of_paths(loopbytes) {
+        return judge_by_kind::judge_paths_sound(loopbytes, certificate);
+    }
+    let n = endian::u16_at(loopbytes, 6);
+    let m = endian::u16_at(loopbytes, 8);
+    let at = n * i;
+    judge_by_kind::judge_sound(loopbytes, n, m, certificate, &mut ranks[at..at + n])
+}
