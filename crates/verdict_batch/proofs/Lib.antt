@@ -1,2 +1,3 @@
 pub mod RankLengths
 pub mod InTurn
+pub mod Filling
