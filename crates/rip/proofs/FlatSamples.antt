@@ -1,10 +1,9 @@
 -- Flattened answers beside their literal fields, no two of which are alike: a field that crosses in another's place, in definition and code alike, does not pass.
 use mathlib.Core.Path.{_≡_, refl}
-use lib.IntN.{pos, negsuc}
-use Rattle.verdict.specs.Outcomes.{numbers, grade-number}
-use Rattle.verdict.specs.declared.Grade.the-variants.{Whole, Fractions}
-use Rattle.verdict.specs.declared.Outcome.the-variants.{Nothing, Ranking, Exclusion, Lasso}
-use Rattle.rip.specs.Flat.{flat-reading, flat-writing, flat-verdict, flat-bounded}
+use lib.IntN.{pos}
+use Rattle.verdict.specs.Outcomes.{numbers}
+use Rattle.verdict.specs.declared.Outcome.the-variants.{Lasso}
+use Rattle.rip.specs.Flat.{flat-reading, flat-writing, flat-bounded}
 
 pub readings-flat :
     flat-reading (record { number = 1; place = 2; kind = 3; n = 4; m = 5; count = 6 }) ≡ record { number = 1; place = 2; kind = 3; n = 4; m = 5; count = 6 }
@@ -12,20 +11,6 @@ readings-flat = refl
 
 pub writings-flat : flat-writing (record { number = 1; place = 2; written = 3 }) ≡ record { number = 1; place = 2; written = 3 }
 writings-flat = refl
-
-pub verdicts-flat :
-    (flat-verdict (record { number = 6; place = 8; about = 2; outcome = Nothing })
-    ≡ record { number = 6; place = 8; «record» = 2; outcome = 0; start = pos 0; fall = pos 0; grade = 0 })
-    × (flat-verdict (record { number = 0; place = 0; about = 0; outcome = Ranking (negsuc 6) (pos 9) })
-    ≡ record { number = 0; place = 0; «record» = 0; outcome = 2; start = negsuc 6; fall = pos 9; grade = 0 })
-    × (flat-verdict (record { number = 0; place = 0; about = 0; outcome = Exclusion Whole })
-    ≡ record { number = 0; place = 0; «record» = 0; outcome = 3; start = pos 0; fall = pos 0; grade = 1 })
-    × (flat-verdict (record { number = 0; place = 0; about = 0; outcome = Exclusion Fractions })
-    ≡ record { number = 0; place = 0; «record» = 0; outcome = 3; start = pos 0; fall = pos 0; grade = 2 })
-    × (flat-verdict (record { number = 0; place = 0; about = 0; outcome = Lasso (pos 73) (pos 33) })
-    ≡ record { number = 0; place = 0; «record» = 0; outcome = 4; start = pos 73; fall = pos 33; grade = 0 })
-unfolding numbers grade-number
-verdicts-flat = (refl, refl, refl, refl, refl)
 
 pub bounds-flat :
     flat-bounded (record { verdict = record { number = 1; place = 2; about = 3; outcome = Lasso (pos 73) (pos 33) }; bound = 7 })

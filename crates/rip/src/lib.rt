@@ -3,16 +3,15 @@
 use record::Reading;
 use record::Writing;
 use verdict::Bounded;
-use verdict::Grade;
-use verdict::Outcome;
-use verdict::Verdict;
+use verdict_flat::FlatVerdict;
 ghost use mathlib.Core.Path.{_≡_};
 ghost use Rattle.record.specs.Readers.{loop-reader, certificate-reader, reads, fills};
 ghost use Rattle.record.specs.Writers.{writer, writes, room-after};
 ghost use Rattle.record_short.specs.Conversions.{shortens, shortened-room, lengthens, lengthened-room};
 ghost use Rattle.verdict_short.specs.Answers.{answered, rank-answered, bounded-answered};
 ghost use Rattle.sheet_text.specs.Sheets.{sheet-answers, room-after as text-after};
-ghost use Rattle.rip.specs.Flat.{flat-reading, flat-writing, told, flat-verdict, flat-bounded};
+ghost use Rattle.verdict_flat.specs.FlatVerdicts.{flat-verdict};
+ghost use Rattle.rip.specs.Flat.{flat-reading, flat-writing, flat-bounded};
 
 // ---- answers as C gets them
 
@@ -33,19 +32,6 @@ pub struct FlatWriting {
     pub number: usize,
     pub place: usize,
     pub written: usize,
-}
-
-// The answer of judging: the outcome is 0 nothing, 2 ranking, 3 exclusion, 4 lasso, 6 lexicographic, 8 settling; the grade 0 none,
-// 1 whole, 2 fractions.
-#[repr(C)]
-pub struct FlatVerdict {
-    pub number: usize,
-    pub place: usize,
-    pub record: usize,
-    pub outcome: usize,
-    pub start: i64,
-    pub fall: i64,
-    pub grade: usize,
 }
 
 // The answer of a bound: judging's, and the bound beside it.
@@ -86,42 +72,10 @@ fn flat_writing(w: Writing) -> FlatWriting
     }
 }
 
-// A verdict whose outcome is given in numbers.
-fn flat_told(v: Verdict, outcome: usize, start: i64, fall: i64, grade: usize) -> FlatVerdict
-    ensures { λ f. ⌜ f ≡ told v (record { kind = outcome; start = start; fall = fall; grade = grade }) ⌝ }
-{
-    FlatVerdict {
-        number: v.number,
-        place: v.place,
-        record: v.about,
-        outcome: outcome,
-        start: start,
-        fall: fall,
-        grade: grade,
-    }
-}
-
-fn flat_verdict(v: Verdict) -> FlatVerdict
-    ensures { λ f. ⌜ f ≡ flat-verdict v ⌝ }
-{
-    let outcome = v.outcome;
-    match outcome {
-        Outcome::Nothing => flat_told(v, 0, 0, 0, 0),
-        Outcome::Ranking { start, fall } => flat_told(v, 2, start, fall, 0),
-        Outcome::Exclusion { grade } => match grade {
-            Grade::Whole => flat_told(v, 3, 0, 0, 1),
-            Grade::Fractions => flat_told(v, 3, 0, 0, 2),
-        },
-        Outcome::Lasso { start, fall } => flat_told(v, 4, start, fall, 0),
-        Outcome::Lexicographic => flat_told(v, 6, 0, 0, 0),
-        Outcome::Settling { start, fall } => flat_told(v, 8, start, fall, 0),
-    }
-}
-
 fn flat_bounded(b: Bounded) -> FlatBounded
     ensures { λ f. ⌜ f ≡ flat-bounded b ⌝ }
 {
-    let v = flat_verdict(b.verdict);
+    let v = verdict_flat::flat_verdict(b.verdict);
     FlatBounded {
         number: v.number,
         place: v.place,
@@ -214,7 +168,7 @@ pub extern "C" fn cushiedoo_judge(
     ensures { λ r. ⌜ r ≡ flat-verdict (answered (now (loopbytes .entry)) (now (certificate .entry)) (now (rank .entry))) ⌝ }
     ensures { λ _. ⌜ now (rank .exit) ≡ rank-answered (now (loopbytes .entry)) (now (certificate .entry)) (now (rank .entry)) ⌝ }
 {
-    flat_verdict(judge_by_kind::judge(loopbytes, certificate, rank))
+    verdict_flat::flat_verdict(judge_by_kind::judge(loopbytes, certificate, rank))
 }
 
 // Tells how many steps a loop can take from a state, by a certificate that has a rank.

@@ -1,7 +1,7 @@
 -- `rip::cushiedoo_judge` meets its contract. Assumes nothing.
 use mathlib.Core.Path.{ap, _∙_}
 use borrow.Author.Needs.{needs}
-use Rattle.rip.specs.Flat.{flat-verdict}
+use Rattle.verdict_flat.specs.FlatVerdicts.{flat-verdict}
 use Rattle.rip.proofs.cushiedoo_judge.Statement.{statement}
 use Rattle.rip.proofs.cushiedoo_judge.Tie as tie
 

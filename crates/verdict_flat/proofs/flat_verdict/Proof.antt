@@ -1,4 +1,4 @@
--- `rip::flat_verdict` meets its contract: in each arm the numbers are those of the outcome that is there. Assumes nothing.
+-- `verdict_flat::flat_verdict` meets its contract: in each arm the numbers are those of the outcome that is there. Assumes nothing.
 use mathlib.Core.Path.{_≡_, sym, ap, _∙_}
 use mir.Facts.{toZ-ofZ}
 use borrow.Author.Needs.{needs, sfits-of}
@@ -7,9 +7,9 @@ use Rattle.verdict.specs.declared.Grade.the-variants.{Whole, Fractions}
 use Rattle.verdict.specs.declared.Outcome.{Outcome}
 use Rattle.verdict.specs.declared.Outcome.the-variants.{Nothing, Ranking, Exclusion, Lasso, Lexicographic, Settling}
 use Rattle.verdict.specs.declared.Verdict.{Verdict}
-use Rattle.rip.specs.Flat.{told, flat-verdict}
-use Rattle.rip.proofs.flat_verdict.Statement.{statement}
-use Rattle.rip.proofs.flat_verdict.Tie as tie
+use Rattle.verdict_flat.specs.FlatVerdicts.{told, flat-verdict}
+use Rattle.verdict_flat.proofs.flat_verdict.Statement.{statement}
+use Rattle.verdict_flat.proofs.flat_verdict.Tie as tie
 
 -- a verdict is told by the numbers of what its outcome is
 by-outcome : (v : Verdict) (o : Outcome) → v .outcome ≡ o → told v (numbers o) ≡ flat-verdict v

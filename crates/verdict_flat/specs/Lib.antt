@@ -1,0 +1,2 @@
+-- a verdict as fields that are numbers
+pub mod FlatVerdicts
