@@ -1,1 +1,1 @@
-
+pub mod WordLaws

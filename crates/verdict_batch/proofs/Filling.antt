@@ -27,6 +27,7 @@ use Rattle.verdict_batch.proofs.InTurn.{verdicts-length, as-one-by-one,
 pub record Entered (b : Batch) (judged : ℕ) : Type 0 where
   pub loop-sound : loop-told (b .loopbytes) ≡ done
   pub count-is : judged ≡ count b
+  pub few : count b ≤ 32
   pub placed : count b ≤ b .places
   pub numbered : numbers-needed b ≤ b .numbers
 
@@ -41,6 +42,7 @@ entered b r is some = by-said (said batching b) refl
         record {
           loop-sound = passes .0;
           count-is = ap (λ x. x .count) (rw e at is);
+          few = leb-true (count b) 32 (room .0);
           placed = leb-true (count b) (b .places) (room .1 .0);
           numbered = leb-true (numbers-needed b) (b .numbers) (room .1 .1 .0);
         }
@@ -149,6 +151,7 @@ module _ {X : Type 0} (f : Verdict → X) (loopbytes bytes : List ℕ) (row : Li
     pub record Asked : Type 0 where
       pub loop-sound : loop-told loopbytes ≡ done
       pub starts-within : from ≤ length bytes
+      pub few-before : i < 32
       pub row-there : i < length rows
       pub stretch-there : variables loopbytes * i + variables loopbytes ≤ length numbers
 
@@ -158,6 +161,7 @@ module _ {X : Type 0} (f : Verdict → X) (loopbytes bytes : List ℕ) (row : Li
         record {
           loop-sound = known .loop-sound;
           starts-within = omega (arith, at .from-is, starts (r .count) i known less);
+          few-before = omega (arith, known .count-is, known .few);
           row-there = omega (arith, rows-long, known .count-is, known .placed);
           stretch-there = omega (arith, numbers-long, stretched (r .count) i known less);
         }
@@ -172,11 +176,11 @@ module _ {X : Type 0} (f : Verdict → X) (loopbytes bytes : List ℕ) (row : Li
       certificate-is : take (end - from) (drop from bytes) ≡ getD (records bytes) i []
       certificate-is = ap (λ k. take (end - k) (drop k bytes)) (at .from-is) ∙ record-is (r .count) i known less end end-there
 
-      pub next-state : (z v : Verdict) (after : List ℤ)
+      pub next-state : (v : Verdict) (put : X) (after : List ℤ) → put ≡ f v
           → v ≡ answered loopbytes (take (end - from) (drop from bytes)) (stretch (variables loopbytes) i numbers)
           → after ≡ with-stretch (variables loopbytes) i (rank-answered loopbytes (take (end - from) (drop from bytes)) (stretch (variables loopbytes) i numbers)) numbers
-          → State (i + 1) end (set rows i (f v)) after
-      next-state z v after v-is after-is =
+          → State (i + 1) end (set rows i put) after
+      next-state v put after put-is v-is after-is =
           let n = variables loopbytes in
           let c = take (end - from) (drop from bytes) in
           let next : i + 1 ≡ suc i = omega arith in
@@ -184,7 +188,7 @@ module _ {X : Type 0} (f : Verdict → X) (loopbytes bytes : List ℕ) (row : Li
           rw next
           (record {
             from-is = end-there;
-            rows-are = ap (λ x. set x i (f v)) (at .rows-are) ∙ row-turn (r .count) i known less z v c certificate-is told;
+            rows-are = ap (λ x. set x i put) (at .rows-are) ∙ ap (set (row-at i) i) put-is ∙ row-turn (r .count) i known less v v c certificate-is told;
             numbers-are =
                 after-is
                 ∙ ap (λ x. with-stretch n i (rank-answered loopbytes c (stretch n i x)) x) (at .numbers-are)
