@@ -1,6 +1,6 @@
 #!/usr/bin/env bash
-# Builds and runs everything that stands around the archive: the C header and example, the Rust wrapper, and the second
-# opinion with its generated cases; and whether the proved table of exchanges leaves none out.
+# Builds and runs everything that stands around the archive: the C header and example, the Rust wrapper, the example that asks
+# a solver, and the second opinion with its generated cases; and whether the proved table of exchanges leaves none out.
 #
 #     tests/run.sh [--cases N] [--seed N] [FOLDER]
 #
@@ -114,7 +114,14 @@ exchanges() {
   tests/exchanges.py check
 }
 
+# The example that asks a solver, as far as it goes without one.
+proposer() {
+  there python3 || return 1
+  tests/propose.py
+}
+
 part "exchanges, none left out" 1 exchanges
+part "proposer, without z3" 0 proposer
 part "c header" 0 c_header
 part "c example" 0 c_example
 part "rust wrapper" 0 rust_wrapper
