@@ -49,7 +49,7 @@ expect(lines < 150, f"{lines} lines, where fewer than 150 are promised")
 
 with tempfile.TemporaryDirectory() as scratch:
     sheet = os.path.join(scratch, "sheet")
-    refused("no names", "two names are wanted: propose.py LOOP SHEET")
+    refused("no names", "two names are wanted: propose.py LOOP SHEET (an example, and no part of the checker)")
     refused("a missing file", "missing: No such file or directory", os.path.join(scratch, "missing"), sheet)
     refused("a directory", "Is a directory", scratch, sheet)
     for what, text, ending in (

@@ -116,7 +116,7 @@ def exclusion(z3, n, rows):
 
 def main(words):
     if len(words) != 2:
-        raise Wrong("two names are wanted: propose.py LOOP SHEET")
+        raise Wrong("two names are wanted: propose.py LOOP SHEET (an example, and no part of the checker)")
     names, rows = loop_of(Path(words[0]).read_bytes().decode("utf-8", "replace"))
     program = ROOT / "target/bin/sheet"
     if not program.is_file():

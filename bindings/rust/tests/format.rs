@@ -97,8 +97,8 @@ fn the_table_of_parted_bytes_is_as_printed() {
             ranking[..17].to_vec(),
         ),
         (
-            "`02 00 00 00 09 00`, then its ranking",
-            [&[2, 0, 0, 0, 9, 0][..], &ranking].concat(),
+            "`02 00 00 00 63 00`, then its ranking",
+            [&[2, 0, 0, 0, 99, 0][..], &ranking].concat(),
         ),
         (
             "its ranking, then with 60,001 as the first of Z",
