@@ -52,7 +52,7 @@
  *   CUSHIEDOO_FAILS      8  no longer given: 21 to 63 say which condition fails
  *   CUSHIEDOO_STATE      9  state entry out of range, the first                    its index, from 0
  *   CUSHIEDOO_ENTRIES   10  state doesn't have n entries                           number of entries
- *   CUSHIEDOO_OUTSIDE   11  lasso state outside the invariant                      0
+ *   CUSHIEDOO_OUTSIDE   11  lasso state outside the invariant s.x + s0 >= 0        0
  *   CUSHIEDOO_LIST      12  value list of the wrong length                         length needed (1 if ms is absent)
  *   CUSHIEDOO_COMPONENT 14  component number that doesn't exist, the first         its first byte
  *   CUSHIEDOO_ROW       15  row of a short ranking not below m, or not above the   the triple's first byte
