@@ -51,11 +51,11 @@ def loop_of(text):
         if len(parts) != 3:
             raise Wrong(f"line {number}: one of <=, >= and = is wanted, once: {line.strip()!r}")
         left, right = (side(part, names, f"line {number}") for part in parts[::2])
-        least = {key: left.get(key, 0) - right.get(key, 0) for key in {**left, **right}}
+        difference = {key: left.get(key, 0) - right.get(key, 0) for key in {**left, **right}}
         if parts[1] != ">=":
-            sums.append((number, least))
+            sums.append((number, difference))
         if parts[1] != "<=":
-            sums.append((number, {key: -factor for key, factor in least.items()}))
+            sums.append((number, {key: -factor for key, factor in difference.items()}))
     if not 1 <= len(names) <= 16 or len(sums) > 64:
         raise Wrong(f"{len(names)} variables and {len(sums)} rows: 1 to 16 and 0 to 64 are taken (= makes two rows)")
     rows = []
