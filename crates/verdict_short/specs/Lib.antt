@@ -1,4 +1,6 @@
 -- what judging and bound answer of a short ranking, and of every certificate for a loop of kind 1
 pub mod ShortJudging
+-- the multipliers that a short ranking stands for, in the theory's words
+pub mod ShortContents
 -- what the public judge and bound answer
 pub mod Answers
