@@ -8,3 +8,9 @@ pub mod LongHeld
 pub mod LongJudged
 -- accepted exactly when; what is then answered
 pub mod ShortAccepted
+-- demands 2 and 3 about bytes
+pub mod ShortDemands
+-- what a refusal by a condition means
+pub mod ShortToldExactly
+-- refused calls, whatever the kinds
+pub mod ShortRefusals
