@@ -14,3 +14,11 @@ pub mod ShortDemands
 pub mod ShortToldExactly
 -- refused calls, whatever the kinds
 pub mod ShortRefusals
+-- triples that rise
+pub mod TripleWeights
+-- their bytes are sound and hold them
+pub mod ShortReadBack
+-- accepted, told and bounded in values
+pub mod ShortInValues
+-- a ranking moved to kind 7 keeps its answers
+pub mod ShortenedAlike

@@ -2,5 +2,7 @@
 pub mod ShortJudging
 -- the multipliers that a short ranking stands for, in the theory's words
 pub mod ShortContents
+-- triples within the limits, the bytes that hold them and the ranking that they stand for
+pub mod ShortValues
 -- what the public judge and bound answer
 pub mod Answers
