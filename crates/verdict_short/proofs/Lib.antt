@@ -22,3 +22,11 @@ pub mod ShortReadBack
 pub mod ShortInValues
 -- a ranking moved to kind 7 keeps its answers
 pub mod ShortenedAlike
+-- S1 as a short ranking
+pub mod ShortSamples
+-- what the statements ask for, met and not met
+pub mod ShortPins
+-- the edges in one table
+pub mod ShortVerdictEdges
+-- wrong judges
+pub mod WrongShortJudges

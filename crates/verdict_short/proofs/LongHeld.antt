@@ -37,7 +37,7 @@ pub record Long-held (r : Reader) (m : ℕ) (bytes : List ℕ) : Type 0 where
   pub kind-is : R.kind r ≡ ranking
   pub values-are : ranking-in r ≡ stood-for m bytes
 
-small-in : (x : ℕ) → x ≤ 60000 → In multipliers (pos x)
+pub small-in : (x : ℕ) → x ≤ 60000 → In multipliers (pos x)
 unfolding multipliers
 small-in x low = within-in multipliers (pos x) (small-within 60000 x low)
 

@@ -71,6 +71,13 @@ paths-refuse loopbytes certificate lent paths short h =
     let seven : littleAt 2 certificate 4 ≡ 7 = eqb-true (littleAt 2 certificate 4) 7 short in
     omega arith
 
+-- what an accepted short ranking is answered with: -Yb, -Zb, and ZA' in front of the list
+pub record Short-answers (loopbytes certificate : List ℕ) (lent : List ℤ) : Type 0 where
+  pub verdict-is : (let l = loop-of (short-pair loopbytes certificate) in let c = ranking-of (short-pair loopbytes certificate) in
+      answered loopbytes certificate lent ≡ shows (Outcomes.Ranking (start l c) (fall l c)))
+  pub list-is : (let p = short-pair loopbytes certificate in
+      rank-answered loopbytes certificate lent ≡ rank (loop-of p) (ranking-of p) ++ drop (variables-of p) lent)
+
 module _ (loopbytes certificate : List ℕ) (short : of-short certificate ≡ true) where
   abbrev p : Short-pair
   p = short-pair loopbytes certificate
@@ -97,13 +104,9 @@ module _ (loopbytes certificate : List ℕ) (short : of-short certificate ≡ tr
           rw (judged-as-sound p s lent .0) (long-exactly p s lent .1 a),
     )
 
-    -- ---- what is answered: -Yb, -Zb, and ZA' in front of the list
+    -- ---- what is answered
 
-    pub record Short-answers : Type 0 where
-      pub verdict-is : answered loopbytes certificate lent ≡ shows (Outcomes.Ranking (start (loop-of p) (ranking-of p)) (fall (loop-of p) (ranking-of p)))
-      pub list-is : rank-answered loopbytes certificate lent ≡ rank (loop-of p) (ranking-of p) ++ drop (variables-of p) lent
-
-    pub short-answers : answered loopbytes certificate lent .number ≡ 0 → Short-answers
+    pub short-answers : answered loopbytes certificate lent .number ≡ 0 → Short-answers loopbytes certificate lent
     unfolding judge-of wants-of Pairs.variables-of variables-of loop-of ranking-of
     short-answers h =
         let s = judged-zero-sound h in

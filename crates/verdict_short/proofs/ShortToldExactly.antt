@@ -58,7 +58,8 @@ unfolding short-judged
 agreed-so agreed p lent k none h = refl
 agreed-so (refusal about n q) p lent k none h = absurd (none h)
 
-pub agreed-so-bound : (s : Said) (p : Short-pair) (state : List ℤ) (k : ℕ) → (number-said s ≡ k → ⊥) → short-bounded s p state .verdict .number ≡ k → s ≡ agreed
+pub agreed-so-bound : (s : Said) (p : Short-pair) (state : List ℤ) (k : ℕ) → (number-said s ≡ k → ⊥)
+    → short-bounded s p state .verdict .number ≡ k → s ≡ agreed
 unfolding short-bounded
 agreed-so-bound agreed p state k none h = refl
 agreed-so-bound (refusal about n q) p state k none h = absurd (none h)

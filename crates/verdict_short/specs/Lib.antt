@@ -6,3 +6,5 @@ pub mod ShortContents
 pub mod ShortValues
 -- what the public judge and bound answer
 pub mod Answers
+-- one name that opens every definition, for tables
+pub mod AnswersComputing
