@@ -1,3 +1,4 @@
 pub mod RankLengths
 pub mod InTurn
 pub mod Filling
+pub mod BatchSamples
