@@ -5,21 +5,23 @@ can say more. They decide nothing: a page compares their number and place with t
 """
 from __future__ import annotations
 
-from typing import Callable, Iterator, NamedTuple, Optional, Sequence
+from typing import Callable, Iterator, NamedTuple, Optional, Sequence, Union
 
 from . import layouts
 from .layouts import U16, Field, Shape, kind_name, kind_of, value_at
 from .notation import number_text as shown
 
-Test = tuple[bool, int, int, Callable[[], str]]  # whether it holds, the refusal if it does not, the sentence then
+# A test: whether it holds; the number and the place if it does not; what to say then; and the field's bytes, if not 2.
+Test = Union[tuple[bool, int, int, Callable[[], str]], tuple[bool, int, int, Callable[[], str], int]]
 
 
 class Fault(NamedTuple):
-    """A fault of a record: the refusal's number and place, and what is wrong."""
+    """A fault of a record: the refusal's number and place, what is wrong, and how many bytes the field there has."""
 
     number: int
     place: int
     sentence: str
+    width: int = 2
 
 
 def loop_fault(data: bytes, names: Sequence[str] = ()) -> Optional[Fault]:
@@ -37,7 +39,10 @@ def certificate_fault(data: bytes, shape: Shape, names: Sequence[str] = ()) -> O
 
 
 def _first(tests: Iterator[Test]) -> Optional[Fault]:
-    return next((Fault(number, place, sentence()) for holds, number, place, sentence in tests if not holds), None)
+    for holds, number, place, sentence, *width in tests:
+        if not holds:
+            return Fault(number, place, sentence(), *width)
+    return None
 
 
 def _frame(data: bytes, kinds: Sequence[int]) -> Iterator[Test]:
@@ -77,7 +82,7 @@ def _values(data: bytes, place: int, fields: Iterator[Field]) -> Iterator[Test]:
         value = value_at(data, place, form)
         yield least <= value <= most, 6, place, lambda: (
             f"{name[0].upper() + name[1:]} is {shown(value)}. It must be {shown(least)} to {shown(most)}."
-        )
+        ), form[0]
         place += form[0]
 
 

@@ -1,0 +1,133 @@
+"""A run from a first state, its staircase and its bound, for an accepted ranking, lasso or settling.
+
+The bound is the archive's. The run is found in Python, and everything that the verdict promises of it is looked at: each pair of
+states is a step, r·x is at least the start before each step and falls by the fall, and no more steps are taken than the archive's
+bound at any state of the run allows.
+"""
+from __future__ import annotations
+
+from typing import Iterator, Optional, Sequence, Union
+
+from ..answers import LassoRanked, Outcome, Ranked, Settled
+from ..calls import bound_bytes
+from ..notation import counted, number_text, sum_text, tuple_text
+from ..packed import Settling
+from ..records import Lasso, Loop, Ranking
+from ..refusals import Refusal
+from ..runs import LIMIT, MOST_STEPS, Run, find_run, is_run
+from ..sums import dot
+from .markup import Formulas, element, paragraph
+from .svg import Level, staircase
+
+WithRank = Union[Ranked, LassoRanked, Settled]
+SHOWN = 12  # states in the table; of a longer run the first ones and the last
+
+
+class Running:
+    """A certificate's run from a state."""
+
+    def __init__(
+        self, formulas: Formulas, loop: Loop, certificate: Union[Ranking, Lasso, Settling], verdict: WithRank,
+        state: tuple[int, ...], records: tuple[bytes, bytes],
+    ) -> None:
+        self.formulas, self.loop, self.certificate, self.verdict = formulas, loop, certificate, verdict
+        self.records = records
+        self.bound = bound_bytes(*records, state)
+        self.run: Run = find_run(loop.rows, state, verdict.rank)
+        self.settled = self._settled()
+
+    def _settled(self) -> int:
+        """How many states of the run come before the first that has settled; 0 for kinds that do not settle."""
+        if not isinstance(self.certificate, Settling):
+            return 0
+        g, t = self.certificate.g, self.certificate.t
+        return sum(1 for state in self.run.states if dot(g, state) < t)
+
+    def disagreements(self) -> Iterator[str]:
+        """Where the run does not keep what the verdict and the bound promise."""
+        states, verdict = self.run.states, self.verdict
+        if not is_run(self.loop.rows, states):
+            yield "the page’s run has a pair of states that is no step"
+        if isinstance(self.bound, Refusal):
+            return  # of a lasso whose invariant does not hold at the state nothing is promised
+        if self.bound.outcome is not verdict.outcome or (self.bound.start, self.bound.fall) != (verdict.start, verdict.fall):
+            yield "judging and bound tell different outcomes of the certificate"
+        values = [dot(verdict.rank, state) for state in states]
+        for i in range(self.settled, self.run.steps):
+            if values[i] < verdict.start or values[i] - values[i + 1] < verdict.fall:
+                yield f"in the page’s run the rank does not keep start and fall at {tuple_text(states[i])}"
+        for i, state in enumerate(states):
+            left = bound_bytes(*self.records, state)
+            steps = self.run.steps - i
+            if self.bound.outcome is Outcome.SETTLING:
+                steps = max(min(self.settled, self.run.steps) - i, 0)
+            if isinstance(left, Refusal) or left.bound < steps:
+                yield f"the page’s run takes {counted(steps, 'step')} from {tuple_text(state)}, and the checker’s bound is lower"
+
+    def html(self) -> Iterator[str]:
+        """The run on the page."""
+        first = tuple_text(self.run.states[0])
+        yield element("h3", f"A run from {self.formulas.listed()} = {first}")
+        yield paragraph(self._bound_sentence(first), "that")
+        yield paragraph(self._run_sentence())
+        yield self._table()
+        if isinstance(self.certificate, Settling):
+            values = [dot(self.certificate.g, state) for state in self.run.states]
+            yield self._figure(self.certificate.g, values, Level(self.certificate.t, "settled"))
+        yield self._figure(self.verdict.rank, [dot(self.verdict.rank, s) for s in self.run.states], Level(self.verdict.start, "start"))
+
+    def _bound_sentence(self, first: str) -> str:
+        if isinstance(self.bound, Refusal):
+            return f"The checker tells no bound at {first} ({self.bound.number}): {self.bound.meaning}."
+        steps = f"<strong>{counted(self.bound.bound, 'step')}</strong>"
+        if self.bound.outcome is Outcome.SETTLING:
+            assert isinstance(self.certificate, Settling)
+            g = self.formulas.formula(self.formulas.sum(self.certificate.g))
+            return (
+                f"The checker’s bound: from {first} at most {steps} come before {g} has reached {number_text(self.certificate.t)}. "
+                "How many follow, the rank bounds from the state that is reached then."
+            )
+        after = " This holds if the run starts after a step of the stem." if self.bound.outcome is Outcome.LASSO else ""
+        return f"The checker’s bound: a run from {first} takes at most {steps}.{after}"
+
+    def _run_sentence(self) -> str:
+        run, last = self.run, tuple_text(self.run.states[-1])
+        found = f"This run takes {counted(run.steps, 'step')}. It is one of many: each next state was chosen to keep the rank large."
+        if run.open:
+            most = f"{MOST_STEPS} steps" if run.steps == MOST_STEPS else "as far as it was looked for"
+            return f"These are the first {counted(run.steps, 'step')} of a run ({most}). It is one of many, and it may go on."
+        if run.failing is not None:
+            row = self.formulas.inequality(self.loop.rows[run.failing])
+            return f"{found} At {last} it ends, since row ({run.failing + 1}), {row}, does not hold there."
+        return f"{found} From {last} no next state was found with entries within {number_text(LIMIT)} either way."
+
+    def _table(self) -> str:
+        states = self.run.states
+        shown: list[Optional[int]] = list(range(len(states)))
+        if len(states) > SHOWN:
+            shown = [*range(SHOWN - 2), None, len(states) - 1]
+        extra = [self.certificate.g] if isinstance(self.certificate, Settling) else []
+        sums = [*extra, self.verdict.rank]
+        head = "".join(f'<th scope="col">{self.formulas.sum(one)}</th>' for one in sums)
+        lines = [f'<tr><th scope="col">steps</th><th scope="col">{self.formulas.listed()}</th>{head}</tr>']
+        for i in shown:
+            if i is None:
+                lines.append(f'<tr><td class="none" colspan="{2 + len(sums)}">⋮</td></tr>')
+                continue
+            values = "".join(f"<td>{number_text(dot(one, states[i]))}</td>" for one in sums)
+            lines.append(f"<tr><td>{number_text(i)}</td><td>{tuple_text(states[i])}</td>{values}</tr>")
+        return f'<table class="run"><tbody>{"".join(lines)}</tbody></table>'
+
+    def _figure(self, factors: Sequence[int], values: Sequence[int], level: Level) -> str:
+        name = sum_text(factors, (), self.formulas.names)
+        what = f"The values of {name} in this run: {', '.join(map(number_text, values))}. {level.name}: {number_text(level.value)}."
+        split = self.settled if isinstance(self.certificate, Settling) else None
+        caption = f"The values of {self.formulas.formula(self.formulas.sum(factors))} in this run. "
+        caption += f"The broken line is at {number_text(level.value)}, where {_levels(level)}."
+        if split and split < len(values):
+            caption += f" The dotted line is where the run has settled, after {counted(split, 'step')}."
+        return element("figure", staircase(values, level, what, split) + element("figcaption", caption))
+
+
+def _levels(level: Level) -> str:
+    return "it has settled" if level.name == "settled" else "the start is: below it no step is taken"
