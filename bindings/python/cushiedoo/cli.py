@@ -86,9 +86,9 @@ def _forget_output() -> None:
 
 
 def _sheet(chosen: argparse.Namespace) -> int:
-    text = sheet_text(_input(chosen.file))
-    _output(None, text.encode("ascii"))
-    return BAD_INPUT if text == TOO_LONG + "\n" else 0
+    data = _input(chosen.file)
+    _output(None, sheet_text(data).encode("ascii"))
+    return _whole(chosen.file, data)
 
 
 def _words(chosen: argparse.Namespace) -> int:
@@ -96,7 +96,7 @@ def _words(chosen: argparse.Namespace) -> int:
     names = _names(chosen.names, data)
     lines = list(words(data, names))
     _output(None, "".join(f"{line}\n" for line in lines).encode("utf-8"))
-    return BAD_INPUT if len(data) > MOST_BYTES else 0
+    return _whole(chosen.file, data)
 
 
 def _page(chosen: argparse.Namespace) -> int:
@@ -110,9 +110,12 @@ def _page(chosen: argparse.Namespace) -> int:
     if page.disagreements:
         more = f" (and {len(page.disagreements) - 1} more)" if len(page.disagreements) > 1 else ""
         return _tell(f"the page and the checker disagree: {page.disagreements[0]}{more}", DISAGREES)
-    if len(data) > MOST_BYTES:
-        return _tell(f"{chosen.file}: {TOO_LONG}, more than {MOST_BYTES:,} bytes", BAD_INPUT)
-    return 0
+    return _whole(chosen.file, data)
+
+
+def _whole(name: str, data: bytes) -> int:
+    """The exit code after the output: an input that is too long is bad input, whatever was printed of it."""
+    return _tell(f"{name}: {TOO_LONG}, more than {MOST_BYTES:,} bytes", BAD_INPUT) if len(data) > MOST_BYTES else 0
 
 
 # ---- what they read and write
@@ -176,7 +179,8 @@ def _names(given: Optional[str], data: bytes) -> tuple[str, ...]:
     names = tuple(part.strip() for part in given.split(","))
     n = _variables(data)
     try:
-        return check_names(names, len(names) if n is None else n) if n is not None else check_names(names, len(names)) and ()
+        check_names(names, len(names) if n is None else n)
+        return () if n is None else names
     except ValueError as fault:
         raise BadInput(f"--names {given}: {fault}") from None
 

@@ -9,24 +9,22 @@ from ..calls import judge_bytes
 from ..faults import Fault, certificate_fault, loop_fault
 from ..judging import AnyLoop, certificate_from_bytes, loop_from_bytes
 from ..layouts import kind_name, kind_of
-from ..notation import MINUS, counted
-from ..packed import PathLoop
+from ..notation import MINUS, counted, number_text
+from ..packed import PathLoop, Settling
 from ..parting import MOST_BYTES, loop_and_certificates
-from ..records import Lasso, Loop, Ranking, check_names
-from ..packed import Settling
+from ..records import Lasso, Loop, Ranking, Row, check_names
 from ..refusals import Record, Refusal
 from ..sheets import TOO_LONG, Sheet, line_verdict, sheet
-from ..sums import disagreements, first_failure
+from ..sums import disagreements, first_failure, negative
 from . import kinds
-from .markup import Formulas, element, escaped, marked, paragraph
+from .markup import Formulas, element, escaped, heading, marked, paragraph, section
 from .running import Running
 from .style import STYLE
 from .tables import labelled, row_list
 
-EXAMPLE_OF_AN_END = (
-    "The loop with the rows −<i>x</i> ≤ 0, 2<i>x</i> + <i>x</i>′ ≤ 10 and −2<i>x</i> − <i>x</i>′ ≤ −10 has an exclusion too. "
-    "From 3 it goes to 4, 2, 6 and −2, and there it ends."
-)
+# A loop that has an exclusion and ends: the example beside each exclusion.
+ENDING = (Row((-1,), (0,), 0), Row((2,), (1,), 10), Row((-2,), (-1,), -10))
+ITS_RUN = "from 3 it goes to 4, 2, 6 and −2, and there it ends"
 
 
 @dataclass(frozen=True)
@@ -62,17 +60,16 @@ class _Builder:
 
     def page(self) -> Page:
         sections = list(self._too_long() if self.sheet.too_long else self._sections())
-        head = element("h1", "A loop and its certificates")
-        head += element("p", f"{element('code', escaped(self.title), 'file')}, {counted(len(self.data), 'byte')}", "file")
-        if self.sheet.too_long:
-            head = element("h1", "A loop and its certificates") + element("p", element("code", escaped(self.title), "file"), "file")
-        top = element("header", head) + "".join(paragraph(self._disagree(fault), "disagree") for fault in self.faults)
+        size = "" if self.sheet.too_long else f", {counted(len(self.data), 'byte')}"
+        head = heading(1, "A loop and its certificates")
+        head += paragraph(element("code", escaped(self.title), "file") + size, "file")
+        top = element("header", head) + "\n" + "".join(paragraph(self._disagree(fault), "disagree") for fault in self.faults)
         body = top + "".join(sections) + element("footer", self._footer())
         return Page(
             '<!DOCTYPE html>\n<html lang="en"><head><meta charset="utf-8"/>'
             '<meta name="viewport" content="width=device-width, initial-scale=1"/>'
-            f"<title>A loop and its certificates: {escaped(self.title)}</title><style>{STYLE}</style></head>"
-            f"<body>{body}</body></html>\n",
+            f"\n<title>A loop and its certificates: {escaped(self.title)}</title>\n<style>{STYLE}</style></head>\n"
+            f"<body>\n{body}\n</body></html>\n",
             tuple(self.faults),
         )
 
@@ -88,11 +85,8 @@ class _Builder:
         )
 
     def _too_long(self) -> Iterator[str]:
-        yield element(
-            "section",
-            paragraph(f"The input is longer than {MOST_BYTES:,} bytes. Nothing of it was judged.", "verdict") + _line(TOO_LONG),
-            "refused",
-        )
+        told = f"The input is longer than {MOST_BYTES:,} bytes. Nothing of it was judged."
+        yield section(paragraph(told, "verdict") + _line(TOO_LONG), "refused")
 
     def _sections(self) -> Iterator[str]:
         record, certificates = loop_and_certificates(self.data)
@@ -121,22 +115,21 @@ class _Builder:
         told = self.sheet.loop
         if not isinstance(told, Refusal) or (told.number, told.place) != (refusal.number, refusal.place):
             self.faults.append("the sheet and the reader tell different refusals of the loop")
-        return element(
-            "section",
-            element("h2", "The loop" + _badge(False))
+        return section(
+            heading(2, "The loop" + _badge(False))
             + paragraph(f"Refused. {escaped(str(refusal))}. Nothing after it was judged.", "verdict")
             + _malformed(record, fault) + _line(self.sheet.lines[0]),
             "loop refused",
         )
 
     def _loop(self, formulas: Formulas, loop: AnyLoop) -> str:
-        parts = [element("h2", "The loop")]
+        parts = [heading(2, "The loop")]
         before, after = formulas.listed(), formulas.listed(True)
         of = f"The loop has {counted(loop.n, 'variable')}. A step takes {before} to {after}"
         if isinstance(loop, PathLoop):
             parts.append(paragraph(f"{of} on one of {counted(len(loop.paths), 'path')}, and meets each row of that path."))
             for i, rows in enumerate(loop.paths, 1):
-                parts.append(element("h3", f"Path {i}"))
+                parts.append(heading(3, f"Path {i}"))
                 parts.append(row_list(formulas, labelled(rows)) if rows else paragraph("No row: every pair of states is such a step."))
             note = " A sheet’s text takes no loop of several paths; here each certificate is judged by itself."
         else:
@@ -150,11 +143,11 @@ class _Builder:
                 parts.append(paragraph(f"{of}. There are no rows, so every pair of states is a step."))
             note = ""
         parts.append(_line(self.sheet.lines[0], note))
-        return element("section", "".join(parts), "loop")
+        return section("".join(parts), "loop")
 
     def _summary(self, count: int) -> str:
         if not count:
-            return element("section", paragraph("No certificate follows the loop, so nothing is shown of it."))
+            return section(paragraph("No certificate follows the loop, so nothing is shown of it."))
         refused = len(self.tally.get("refused", ()))
         told = f"{counted(count, 'certificate')}: {count - refused} accepted, {refused} refused."
         items = "".join(
@@ -170,7 +163,7 @@ class _Builder:
         )
         if not items:
             items = "<li>Nothing is shown of the loop. That does not mean that it runs for ever.</li>"
-        return element("section", element("h2", "What is shown") + paragraph(told) + element("ul", items, "follows"), "shown")
+        return section(heading(2, "What is shown") + paragraph(told) + element("ul", items, "follows"), "shown")
 
     # ---- a certificate
 
@@ -191,17 +184,16 @@ class _Builder:
             found = [f"{what}: {fault}" for fault in disagreements(loop, certificate, verdict)]
             self.faults.extend(found)
             failure = first_failure(loop, certificate)
-            argument = "".join(kinds.account(formulas, loop, certificate, failure)) + self._follows(formulas, verdict, certificate)
+            argument = "".join(kinds.account(formulas, loop, certificate, failure)) + self._follows(formulas, loop, verdict, certificate)
             if self.state is not None and isinstance(loop, Loop) and isinstance(certificate, (Ranking, Lasso, Settling)):
                 argument += self._run(formulas, loop, certificate, verdict, (record, data), what)
         accepted = not isinstance(verdict, Refusal)
         name = kind_name(kind_of(data)) if kind_of(data) else "no kind"
-        heading = element("h2", f"Certificate {index + 1}: {name}{_badge(accepted)}")
+        title = heading(2, f"Certificate {index + 1}: {name}{_badge(accepted)}")
         sentence = paragraph(self._verdict_sentence(formulas, verdict), "verdict")
         last = _line(line, note) if line else ""
-        return element(
-            "section", heading + sentence + argument + last, f"certificate {'accepted' if accepted else 'refused'}",
-            id=f"certificate{index + 1}")
+        kind = f"certificate {'accepted' if accepted else 'refused'}"
+        return section(title + sentence + argument + last, kind, id=f"certificate{index + 1}")
 
     def _sheet_note(self, what: str, verdict: Verdict, data: bytes, line: str) -> str:
         """Compares the sheet's line with judging. A kind that the sheet does not take it tells as 4, and that is said."""
@@ -250,11 +242,11 @@ class _Builder:
             return f"Accepted. Once a run has settled, {falls}. So no run goes on for ever."
         return f"Accepted. {falls}. So the loop ends."
 
-    def _follows(self, formulas: Formulas, verdict: Verdict, certificate: object) -> str:
+    def _follows(self, formulas: Formulas, loop: AnyLoop, verdict: Verdict, certificate: object) -> str:
         if isinstance(verdict, Excluded):
             return paragraph(
                 "<strong>This does not say that the loop runs for ever.</strong> It says that no linear ranking function exists. The loop may "
-                f"end all the same. {EXAMPLE_OF_AN_END}", "warning")
+                f"end all the same. {_ending_example(loop)}", "warning")
         if not isinstance(verdict, (Ranked, LassoRanked, Settled)):
             return ""
         if not any(verdict.rank):
@@ -263,15 +255,19 @@ class _Builder:
         if isinstance(verdict, Settled) and isinstance(certificate, Settling):
             g = formulas.formula(formulas.sum(certificate.g))
             return paragraph(
-                f"So {g} grows until it has reached {kinds.number_text(certificate.t)}, which takes at most "
-                f"{formulas.formula(_minus(certificate.t, formulas.sum(certificate.g), sum(map(bool, certificate.g))))} steps. "
+                f"So {g} grows until it has reached {number_text(certificate.t)}. From a first state that takes at most "
+                f"{formulas.formula(formulas.affine(negative(certificate.g), certificate.t))} steps, or none if this is below 0. "
                 f"From then on {falls}. {kinds.bound_sentence(verdict.start, verdict.fall)}", "so")
         return paragraph(f"So {falls}. {kinds.bound_sentence(verdict.start, verdict.fall)}", "so")
 
 
-def _minus(threshold: int, shown: str, terms: int) -> str:
-    """t − g·x."""
-    return f"{kinds.number_text(threshold)} {MINUS} ({shown})" if terms > 1 or shown.startswith(MINUS) else f"{kinds.number_text(threshold)} {MINUS} {shown}"
+def _ending_example(loop: AnyLoop) -> str:
+    """A loop that has an exclusion and ends all the same."""
+    if isinstance(loop, Loop) and loop.rows == ENDING:
+        return f"This very loop does: {ITS_RUN}."
+    named = Formulas(("x",), 1)
+    first, second, third = map(named.inequality, ENDING)
+    return f"An example: the loop with the rows {first}, {second} and {third} has an exclusion too; {ITS_RUN}."
 
 
 def _no_step(verdict: Union[Ranked, LassoRanked, Settled]) -> str:
@@ -284,7 +280,7 @@ def _no_step(verdict: Union[Ranked, LassoRanked, Settled]) -> str:
 
 
 def _capital(text: str) -> str:
-    return text[:1].upper() + text[1:] if text[:1].islower() and text[1:2].isalpha() else text
+    return text[:1].upper() + text[1:]
 
 
 def _tally_name(verdict: Verdict) -> str:

@@ -14,7 +14,7 @@ from ..notation import MINUS, number_text
 from ..packed import Argument, PathLoop, Settling
 from ..records import Exclusion, Lasso, Loop, Ranking, Row
 from ..sums import Condition, combined, exclusion_sides, kept_rows, negative, path_targets, with_added_row
-from .markup import RIGHT, Formulas, Mark, element, marked, paragraph, strong
+from .markup import RIGHT, Formulas, Mark, element, heading, marked, paragraph, strong, variable
 from .tables import labelled, row_list, sum_table
 
 Failure = Optional[Condition]
@@ -33,10 +33,6 @@ def account(formulas: Formulas, loop: AnyLoop, certificate: Certificate, failure
         return _settling(formulas, loop, certificate, failure)
     assert isinstance(certificate, Ranking)
     return _ranking(formulas, labelled(loop.rows), certificate, failure)
-
-
-def _heading(text: str) -> str:
-    return element("h3", text)
 
 
 def _differs(formulas: Formulas, failure: Condition, why: str = "") -> str:
@@ -67,16 +63,16 @@ def _ranking(
     if failure and number in (22, 23, 24):
         z_marks = {22: (failure.spot,), 23: ((failure.place, False), (failure.place, True)), 24: (RIGHT,)}[number]
 
-    yield _heading(before)
-    yield paragraph("Take each row times its multiplier Y and add.")
+    yield heading(3, before)
+    yield paragraph(f"Take each row times its multiplier {variable('Y')} and add.")
     yield sum_table(formulas, rows, certificate.y, by_y, y_marks)
     if failure and number == 21:
         yield _differs(formulas, failure, ", since this sum is to speak of the state before the step alone")
         return
     if not failure:
         yield paragraph(f"That is {formulas.formula(f'{formulas.sum(by_z.after)} ≥ {number_text(-by_y.right)}')}.", "that")
-    yield _heading(during)
-    yield paragraph("Take each row times its multiplier Z and add.")
+    yield heading(3, during)
+    yield paragraph(f"Take each row times its multiplier {variable('Z')} and add.")
     yield sum_table(formulas, rows, certificate.z, by_z, z_marks)
     if failure:
         yield _ranking_fails(formulas, failure)
@@ -89,7 +85,7 @@ def _ranking_fails(formulas: Formulas, failure: Condition) -> str:
     if failure.number == 22:
         name = formulas.name(failure.place)
         return paragraph(
-            f"In the column of {name} the sum with Y is {found} and the sum with Z is {wanted}. They must be the same number, "
+            f"In the column of {name} the sum with {variable('Y')} is {found} and the sum with {variable('Z')} is {wanted}. They must be the same number, "
             "so that both sums speak of one rank.", "fails")
     if failure.number == 23:
         one, other = formulas.name(failure.place), formulas.name(failure.place, True)
@@ -121,7 +117,7 @@ def bound_sentence(start: int, fall: int) -> str:
 
 def _lasso(formulas: Formulas, loop: Loop, lasso: Lasso, failure: Failure) -> Iterator[str]:
     invariant = formulas.formula(f"{formulas.affine(lasso.s, lasso.s0)} ≥ 0")
-    yield _heading("The stem and the invariant")
+    yield heading(3, "The stem and the invariant")
     if lasso.stem:
         yield paragraph("One step of the stem comes before the loop. It meets each of these rows:")
         yield row_list(formulas, _stem_rows(lasso))
@@ -129,10 +125,10 @@ def _lasso(formulas: Formulas, loop: Loop, lasso: Lasso, failure: Failure) -> It
         yield paragraph("One step of the stem comes before the loop. The stem has no rows: every pair of states is such a step.")
     yield paragraph(f"The invariant is {invariant}. As a row it is (I): {formulas.inequality(with_added_row(loop, lasso)[-1])}.")
 
-    yield _heading("Start: after a step of the stem the invariant holds")
+    yield heading(3, "Start: after a step of the stem the invariant holds")
     total = combined(lasso.stem, lasso.t, formulas.n)
     fails = failure if failure and failure.number in (41, 42, 43) else None
-    yield paragraph("Take each row of the stem times its multiplier T and add.")
+    yield paragraph(f"Take each row of the stem times its multiplier {variable('T')} and add.")
     yield sum_table(formulas, _stem_rows(lasso), lasso.t, total, _marks(fails) if fails else ())
     if fails:
         yield _differs(formulas, fails, _scaled_why(fails, 41, "k", lasso.k))
@@ -140,11 +136,11 @@ def _lasso(formulas: Formulas, loop: Loop, lasso: Lasso, failure: Failure) -> It
     yield _scaled(formulas, lasso, "k", lasso.k, total.right)
     yield paragraph(f"So {formulas.formula(f'{formulas.affine(lasso.s, lasso.s0, True)} ≥ 0')} after every step of the stem.", "that")
 
-    yield _heading("Kept: a step of the loop keeps the invariant")
+    yield heading(3, "Kept: a step of the loop keeps the invariant")
     rows, weights = kept_rows(loop, lasso)
     total = combined(rows, weights, formulas.n)
     fails = failure if failure and failure.number in (44, 45, 46) else None
-    yield paragraph("Take each row times its multiplier H, and (I) times h0, and add.")
+    yield paragraph(f"Take each row times its multiplier {variable('H')}, and (I) times {variable('h0')}, and add.")
     yield sum_table(formulas, labelled(rows, "(I)"), weights, total, _marks(fails) if fails else ())
     if fails:
         yield _differs(formulas, fails, _scaled_why(fails, 44, "k2", lasso.k2))
@@ -167,15 +163,15 @@ def _scaled_why(failure: Condition, first: int, letter: str, scale: int) -> str:
     if failure.number == first:
         return ", since this sum is to speak of the state after the step alone"
     if failure.number == first + 1:
-        return f", that is {MINUS}{letter} times the entry of s, with {letter} = {number_text(scale)}"
-    return f", that is {letter} times s0, with {letter} = {number_text(scale)}"
+        return f", that is {MINUS}{variable(letter)} times the entry of {variable('s')}, with {variable(letter)} = {number_text(scale)}"
+    return f", that is {variable(letter)} times {variable('s0')}, with {variable(letter)} = {number_text(scale)}"
 
 
 def _scaled(formulas: Formulas, lasso: Lasso, letter: str, scale: int, right: int) -> str:
     shown = formulas.formula(f"{MINUS}({formulas.sum((), lasso.s)})" if _several(lasso.s) else formulas.sum((), negative(lasso.s)))
     return paragraph(
-        f"The left side is {letter} = {number_text(scale)} times {shown}. The right side, {number_text(right)}, is at most {letter} "
-        f"times s0, which is {number_text(scale * lasso.s0)}.")
+        f"The left side is {variable(letter)} = {number_text(scale)} times {shown}. The right side, {number_text(right)}, is at most "
+        f"{variable(letter)} times {variable('s0')}, which is {number_text(scale * lasso.s0)}.")
 
 
 def _several(values: Sequence[int]) -> bool:
@@ -187,22 +183,23 @@ def _several(values: Sequence[int]) -> bool:
 
 def _settling(formulas: Formulas, loop: Loop, settling: Settling, failure: Failure) -> Iterator[str]:
     g = formulas.formula(formulas.sum(settling.g))
-    yield _heading("The rise")
+    yield heading(3, "The rise")
     total = combined(loop.rows, settling.e, formulas.n)
     fails = failure if failure and failure.number in (61, 62, 63) else None
-    yield paragraph("Take each row times its multiplier E and add.")
+    yield paragraph(f"Take each row times its multiplier {variable('E')} and add.")
     yield sum_table(formulas, labelled(loop.rows), settling.e, total, _marks(fails) if fails else ())
     if fails:
-        scale = f"k = {number_text(settling.k)}"
+        k = variable("k")
+        times = f"{k} times the entry of {variable('g')}, with {k} = {number_text(settling.k)}"
         why = {
-            61: f", that is k times the entry of g, with {scale}",
-            62: f", that is {MINUS}k times the entry of g, with {scale}",
-            63: f", that is {MINUS}k, so that the sum rises by 1 at least",
+            61: f", that is {times}",
+            62: f", that is {MINUS}{times}",
+            63: f", that is {MINUS}{k}, so that {g} grows by 1 at least",
         }
         yield _differs(formulas, fails, why[fails.number])
         return
     yield paragraph(
-        f"The left side is k = {number_text(settling.k)} times {formulas.formula(formulas.falls(settling.g))}. The right side, "
+        f"The left side is {variable('k')} = {number_text(settling.k)} times {formulas.formula(formulas.falls(settling.g))}. The right side, "
         f"{number_text(total.right)}, is at most {number_text(-settling.k)}. So {g} grows by at least 1 in each step.", "that")
     yield paragraph(
         f"Once {g} is at least {number_text(settling.t)}, it stays so. From then on this row holds as well, (G): "
@@ -221,11 +218,15 @@ def _exclusion(formulas: Formulas, loop: Loop, exclusion: Exclusion, failure: Fa
     new = [Fraction(w, q) for w in exclusion.w]
     add = [Fraction(v, q) for v in exclusion.v]
     states = Formulas.fractions
-    yield _heading("The step and the direction")
-    yield paragraph(
-        f"The step goes from {states(old)} to {states(new)}. The direction adds {states(map(Fraction, exclusion.v))} to the state "
-        f"before the step and {states(map(Fraction, exclusion.u))} to the state after it, as often as one likes. The direction leaves "
-        "no row if it adds at most 0 to each left side.")
+    yield heading(3, "The step and the direction")
+    told = f"The step goes from {states(old)} to {states(new)}."
+    if any(exclusion.u + exclusion.v):
+        yield paragraph(
+            f"{told} The direction adds {states(map(Fraction, exclusion.v))} to the state before the step and "
+            f"{states(map(Fraction, exclusion.u))} to the state after it, as often as one likes. It leaves no row if it adds at most 0 to "
+            "each left side.")
+    else:
+        yield paragraph(f"{told} The direction is 0: it adds nothing.")
     if loop.rows:
         yield _exclusion_table(formulas, loop, exclusion, failure)
     if failure:
@@ -238,14 +239,16 @@ def _exclusion(formulas: Formulas, loop: Loop, exclusion: Exclusion, failure: Fa
                 f"{row}: at the step the left side is {strong(failure.found)}. It must be at most {strong(failure.wanted)}{times}.",
                 "fails")
         return
-    yield paragraph("So all these pairs are steps: the one above, and the same with the direction added once, twice and so on.", "that")
-    yield _heading("Why no linear ranking function exists")
+    if any(exclusion.u + exclusion.v):
+        yield paragraph("So all these pairs are steps: the one above, and the same with the direction added once, twice and so on.", "that")
+    else:
+        yield paragraph("So this pair of states is a step.", "that")
+    yield heading(3, "Why no linear ranking function exists")
     if any(exclusion.v):
-        rank_v = f"<i>r</i>·{states(map(Fraction, exclusion.v))}"
         yield paragraph(
-            f"The step adds {states(add)} to the state. A ranking function <i>r</i>·<i>x</i> falls in every step, so {rank_v} is below 0. "
-            f"But from {states(old)} on, the direction leads to states that all take a step, and there <i>r</i>·<i>x</i> would sink below "
-            "every start. Both cannot be.")
+            f"The step adds {states(add)} to the state. A ranking function <i>r</i>·<i>x</i> falls in every step, so it falls when this is "
+            f"added. But from {states(old)} on, the direction adds {states(map(Fraction, exclusion.v))} again and again, and all these states "
+            "take a step. There <i>r</i>·<i>x</i> would sink below every start. So there is no such function.")
     else:
         yield paragraph("The step leaves the state as it is. So no function of the state falls in it.")
 
@@ -254,22 +257,26 @@ def _exclusion_table(formulas: Formulas, loop: Loop, exclusion: Exclusion, failu
     lines = []
     for i, (row, (direction, step, right)) in enumerate(zip(loop.rows, exclusion_sides(loop, exclusion))):
         fails = failure.number if failure and failure.place == i else 0
-        at_step, along = f"{number_text(step)} ≤ {number_text(right)}", f"{number_text(direction)} ≤ 0"
+        at_step, along = _compared(step, right), _compared(direction, 0)
         if fails == 32:
-            at_step = marked(at_step.replace("≤", "≰"))
+            at_step = marked(at_step)
         if fails == 31:
-            along = marked(along.replace("≤", "≰"))
+            along = marked(along)
         left, bound = formulas.row(row)
         lines.append(
-            f'<tr><th scope="row">({i + 1})</th><td class="l">{left}</td><td class="r">≤ {bound}</td>'
-            f'<td class="v">{at_step}</td><td class="v">{along}</td></tr>'
+            f'<tr><th scope="row">({i + 1})</th> <td class="l">{left}</td> <td class="r">≤ {bound}</td> '
+            f'<td class="v">{at_step}</td> <td class="v">{along}</td></tr>\n'
         )
     times = f", times {number_text(exclusion.q)}" if exclusion.q > 1 else ""
     head = (
-        f'<tr><th></th><th scope="col" colspan="2">row</th><th scope="col">at the step{times}</th>'
+        f'<tr><td></td> <th scope="col" colspan="2">row</th> <th scope="col">at the step{times}</th> '
         '<th scope="col">the direction adds</th></tr>'
     )
-    return f'<table class="step"><thead>{head}</thead><tbody>{"".join(lines)}</tbody></table>'
+    return f'<table class="step"><thead>{head}</thead><tbody>\n{"".join(lines)}</tbody></table>\n'
+
+
+def _compared(left: int, right: int) -> str:
+    return f"{number_text(left)} {'≤' if left <= right else '≰'} {number_text(right)}"
 
 
 def exclusion_sentence(verdict: Excluded) -> str:
@@ -283,7 +290,7 @@ def exclusion_sentence(verdict: Excluded) -> str:
 
 
 def _argument(formulas: Formulas, loop: PathLoop, argument: Argument, failure: Failure) -> Iterator[str]:
-    yield _heading("The components")
+    yield heading(3, "The components")
     items = []
     for component in argument.components:
         shown = formulas.formula(formulas.sum(component.rank))
@@ -293,7 +300,7 @@ def _argument(formulas: Formulas, loop: PathLoop, argument: Argument, failure: F
     for path, rows in enumerate(loop.paths):
         part = argument.parts[path]
         own = argument.components[part.component]
-        yield _heading(f"Path {path + 1}, which belongs to component {part.component + 1}")
+        yield heading(3, f"Path {path + 1}, which belongs to component {part.component + 1}")
         for listed, ((number, target), weights) in enumerate(zip(path_targets(argument, path), part.lists)):
             total = combined(rows, weights, formulas.n)
             fails = failure if failure and (failure.place, failure.listed) == (path, listed) else None
@@ -307,6 +314,9 @@ def _argument(formulas: Formulas, loop: PathLoop, argument: Argument, failure: F
                 yield _differs(formulas, fails, right if fails.spot is None else f", as in {formulas.formula(rank)}")
                 return
             yield _path_follows(formulas, argument, number, listed, own.rank, target.right, total.right)
+    yield paragraph(
+        "Component 1 never rises, and each step on its own paths lowers it while it is at least its start. So those steps come to an end. "
+        "From then on the same holds of the next component, and so on to the last. So no run goes on for ever.", "so")
 
 
 def _path_follows(

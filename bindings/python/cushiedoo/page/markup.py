@@ -37,7 +37,17 @@ def element(name: str, content: str, kind: str = "", **attributes: str) -> str:
 
 def paragraph(content: str, kind: str = "") -> str:
     """A paragraph."""
-    return element("p", content, kind)
+    return element("p", content, kind) + "\n"
+
+
+def section(content: str, kind: str = "", **attributes: str) -> str:
+    """A section of the page."""
+    return "\n" + element("section", "\n" + content, kind, **attributes) + "\n"
+
+
+def heading(level: int, content: str) -> str:
+    """A heading."""
+    return element(f"h{level}", content) + "\n"
 
 
 def marked(content: str) -> str:

@@ -16,7 +16,7 @@ from ..records import Lasso, Loop, Ranking
 from ..refusals import Refusal
 from ..runs import LIMIT, MOST_STEPS, Run, find_run, is_run
 from ..sums import dot
-from .markup import Formulas, element, paragraph
+from .markup import Formulas, element, heading, paragraph
 from .svg import Level, staircase
 
 WithRank = Union[Ranked, LassoRanked, Settled]
@@ -67,7 +67,7 @@ class Running:
     def html(self) -> Iterator[str]:
         """The run on the page."""
         first = tuple_text(self.run.states[0])
-        yield element("h3", f"A run from {self.formulas.listed()} = {first}")
+        yield heading(3, f"A run from {self.formulas.listed()} = {first}")
         yield paragraph(self._bound_sentence(first), "that")
         yield paragraph(self._run_sentence())
         yield self._table()
@@ -108,26 +108,28 @@ class Running:
             shown = [*range(SHOWN - 2), None, len(states) - 1]
         extra = [self.certificate.g] if isinstance(self.certificate, Settling) else []
         sums = [*extra, self.verdict.rank]
-        head = "".join(f'<th scope="col">{self.formulas.sum(one)}</th>' for one in sums)
-        lines = [f'<tr><th scope="col">steps</th><th scope="col">{self.formulas.listed()}</th>{head}</tr>']
+        head = "".join(f' <th scope="col">{self.formulas.sum(one)}</th>' for one in sums)
+        lines = [f'<tr><th scope="col">steps</th> <th scope="col">{self.formulas.listed()}</th>{head}</tr>\n']
         for i in shown:
             if i is None:
-                lines.append(f'<tr><td class="none" colspan="{2 + len(sums)}">⋮</td></tr>')
+                lines.append(f'<tr><td class="none" colspan="{2 + len(sums)}">⋮</td></tr>\n')
                 continue
-            values = "".join(f"<td>{number_text(dot(one, states[i]))}</td>" for one in sums)
-            lines.append(f"<tr><td>{number_text(i)}</td><td>{tuple_text(states[i])}</td>{values}</tr>")
-        return f'<table class="run"><tbody>{"".join(lines)}</tbody></table>'
+            values = "".join(f" <td>{number_text(dot(one, states[i]))}</td>" for one in sums)
+            lines.append(f"<tr><td>{number_text(i)}</td> <td>{tuple_text(states[i])}</td>{values}</tr>\n")
+        return f'<table class="run"><tbody>\n{"".join(lines)}</tbody></table>\n'
 
     def _figure(self, factors: Sequence[int], values: Sequence[int], level: Level) -> str:
         name = sum_text(factors, (), self.formulas.names)
         what = f"The values of {name} in this run: {', '.join(map(number_text, values))}. {level.name}: {number_text(level.value)}."
         split = self.settled if isinstance(self.certificate, Settling) else None
         caption = f"The values of {self.formulas.formula(self.formulas.sum(factors))} in this run. "
-        caption += f"The broken line is at {number_text(level.value)}, where {_levels(level)}."
+        caption += _levels(level)
         if split and split < len(values):
-            caption += f" The dotted line is where the run has settled, after {counted(split, 'step')}."
-        return element("figure", staircase(values, level, what, split) + element("figcaption", caption))
+            caption += f" The dotted line: after {counted(split, 'step')} the run has settled."
+        return element("figure", staircase(values, level, what, split) + element("figcaption", caption)) + "\n"
 
 
 def _levels(level: Level) -> str:
-    return "it has settled" if level.name == "settled" else "the start is: below it no step is taken"
+    if level.name == "settled":
+        return f"The broken line is at {number_text(level.value)}: a run has settled once this is reached."
+    return f"The broken line is the start, {number_text(level.value)}: below it no step is taken."

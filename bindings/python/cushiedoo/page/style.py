@@ -41,8 +41,10 @@ tr { break-inside: avoid }
 .total td, .total th { border-top: 1pt solid var(--ink); padding-top: 1.2mm }
 .total .w { color: var(--soft); font-style: italic }
 .none { color: var(--soft); font-style: italic }
+.step thead th { padding-left: 1.2mm }
+.step thead th:nth-child(n + 3) { padding-left: 5mm }
 .step thead th, .run tr:first-child th { border-bottom: 1pt solid var(--ink); font-size: 10pt; color: var(--soft) }
-.step td, .run td, .run th { padding-right: 5mm }
+.step .v, .run td, .run th { padding-right: 5mm }
 .step .v { padding-left: 5mm; white-space: nowrap }
 .run td { text-align: left }
 .that { font-weight: 500 }
@@ -60,7 +62,7 @@ figure { margin: 4mm 0 4mm 0; break-inside: avoid }
 figcaption { font-size: 10pt; color: var(--soft); margin-top: 1mm }
 svg { display: block; width: 100%; height: auto; font-size: 11px; font-family: inherit }
 svg text { fill: #1b1b1b }
-svg .value { font-weight: 600 }
+svg .value { font-weight: 600; paint-order: stroke; stroke: #ffffff; stroke-width: 3px; stroke-linejoin: round }
 svg .axis { stroke: #1b1b1b; stroke-width: 1 }
 svg .area { fill: #efeae0 }
 svg .stairs { fill: none; stroke: #1b1b1b; stroke-width: 2.2; stroke-linejoin: round }
@@ -69,7 +71,10 @@ svg .split { stroke: #1b1b1b; stroke-width: 1.2; stroke-dasharray: 1 3 }
 footer { border-top: .6pt solid var(--rule); padding-top: 3mm; color: var(--soft); font-size: 10pt }
 @media print {
   html { background: none }
-  body { max-width: none; padding: 0 }
+  body { max-width: none; padding: 0; font-size: 10.5pt; line-height: 1.42 }
+  .verdict { font-size: 11.5pt }
+  section { margin-bottom: 7mm }
+  section.certificate.refused { break-inside: avoid }
   .verdict { -webkit-print-color-adjust: exact; print-color-adjust: exact }
 }
 """

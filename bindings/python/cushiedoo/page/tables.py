@@ -23,7 +23,7 @@ def row_list(formulas: Formulas, rows: Labelled) -> str:
     lines = []
     for label, row in rows:
         left, right = formulas.row(row)
-        lines.append(f'<tr><th scope="row">{label}</th><td class="l">{left}</td><td class="r">≤ {right}</td></tr>')
+        lines.append(f'<tr><th scope="row">{label}</th> <td class="l">{left}</td> <td class="r">≤ {right}</td></tr>\n')
     return _table("rows", lines)
 
 
@@ -34,15 +34,17 @@ def sum_table(formulas: Formulas, rows: Labelled, weights: Sequence[int], total:
         if weight:
             left, right = formulas.row(row)
             lines.append(
-                f'<tr><td class="w">{number_text(weight)} ×</td><td class="l">{left}</td><td class="r">≤ {right}</td>'
-                f'<th scope="row">{label}</th></tr>'
+                f'<tr><td class="w">{number_text(weight)} ×</td> <td class="l">{left}</td> <td class="r">≤ {right}</td> '
+                f'<th scope="row">{label}</th></tr>\n'
             )
     if not lines:
-        lines.append('<tr><td class="none" colspan="4">every multiplier is 0</td></tr>')
+        lines.append('<tr><td class="none" colspan="4">every multiplier is 0</td></tr>\n')
     left, right = formulas.row(total, marks)
-    lines.append(f'<tr class="total"><td class="w">sum</td><td class="l">{left}</td><td class="r">≤ {right}</td><th></th></tr>')
+    lines.append(
+        f'<tr class="total"><td class="w">sum</td> <td class="l">{left}</td> <td class="r">≤ {right}</td> <td></td></tr>\n'
+    )
     return _table("sum", lines)
 
 
 def _table(kind: str, lines: Sequence[str]) -> str:
-    return f'<table class="{kind}"><tbody>{"".join(lines)}</tbody></table>'
+    return f'<table class="{kind}"><tbody>\n{"".join(lines)}</tbody></table>\n'
