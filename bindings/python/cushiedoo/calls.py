@@ -128,5 +128,8 @@ def verdict_of(answer: RawVerdict, rank: tuple[int, ...], names: tuple[str, ...]
         return Excluded(Grade(answer.grade))
     if outcome is Outcome.LEXICOGRAPHIC:
         return Ordered()
-    ranked = {Outcome.RANKING: Ranked, Outcome.LASSO: LassoRanked, Outcome.SETTLING: Settled}[outcome]
-    return ranked(rank, answer.start, answer.fall, names=names)
+    if outcome is Outcome.LASSO:
+        return LassoRanked(rank, answer.start, answer.fall, names=names)
+    if outcome is Outcome.SETTLING:
+        return Settled(rank, answer.start, answer.fall, names=names)
+    return Ranked(rank, answer.start, answer.fall, names=names)

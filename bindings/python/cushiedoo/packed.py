@@ -257,4 +257,4 @@ class Settling:
         if fault is not None:
             return fault
         take = taker(tuple(unpacked(data, 6, (I16,) * n + (I32, U16) + (U16,) * (3 * m + 2))))
-        return cls(take(n), *take(2), take(m), take(m + 1), take(m + 1))
+        return cls(g=take(n), t=take(1)[0], k=take(1)[0], e=take(m), y=take(m + 1), z=take(m + 1))

@@ -21,6 +21,11 @@ def whole_numbers(values: Iterable[int]) -> tuple[int, ...]:
     return tuple(operator.index(value) for value in values)
 
 
+def dot(left: Iterable[int], right: Iterable[int]) -> int:
+    """The sum of the products of two lists."""
+    return sum(one * other for one, other in zip(left, right))
+
+
 def settle(record: object, *lists: str, single: Sequence[str] = ()) -> None:
     """Turns the named fields of a frozen record into tuples of whole numbers, and those in `single` into whole numbers."""
     for name in lists:
@@ -75,7 +80,7 @@ class Row:
 
     def left(self, x: Sequence[int], after: Sequence[int]) -> int:
         """The left side at a pair of states."""
-        return sum(map(operator.mul, self.before, x)) + sum(map(operator.mul, self.after, after))
+        return dot(self.before, x) + dot(self.after, after)
 
     def holds(self, x: Sequence[int], after: Sequence[int]) -> bool:
         """Whether a pair of states meets the row."""
@@ -86,7 +91,8 @@ def rows_of(values: Sequence[int], n: int) -> tuple[Row, ...]:
     """Rows from the values of a record."""
     width = 2 * n + 1
     return tuple(
-        Row(values[i : i + n], values[i + n : i + 2 * n], values[i + 2 * n]) for i in range(0, len(values), width)
+        Row(tuple(values[i : i + n]), tuple(values[i + n : i + 2 * n]), values[i + 2 * n])
+        for i in range(0, len(values), width)
     )
 
 
@@ -269,8 +275,10 @@ class Lasso:
             return read
         n, m, ms = loop.n, loop.m, read.values[0]
         take = taker(read.values[1:])
-        stem = rows_of(take(ms * (2 * n + 1)), n)
-        return cls(stem, take(n), *take(1), *take(1), take(ms), *take(1), take(m), *take(1), take(m + 1), take(m + 1))
+        return cls(
+            stem=rows_of(take(ms * (2 * n + 1)), n), s=take(n), s0=take(1)[0], k=take(1)[0], t=take(ms), k2=take(1)[0],
+            h=take(m), h0=take(1)[0], y=take(m + 1), z=take(m + 1),
+        )
 
 
 def check_added(weights: Sequence[int], y: Sequence[int], z: Sequence[int], letter: str) -> None:

@@ -9,8 +9,7 @@ from __future__ import annotations
 from dataclasses import dataclass
 from typing import Optional, Sequence
 
-from .records import Row
-from .sums import dot
+from .records import Row, dot
 
 LIMIT = 1_000_000  # a state's entries go so far either way
 MOST_STEPS = 60

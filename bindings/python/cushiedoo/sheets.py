@@ -76,4 +76,4 @@ def line_verdict(line: str) -> Verdict:
     if word == "excluded":
         return Excluded(Grade[rest[0].upper()])
     rank, start, fall = tuple(map(int, rest[:-4])), int(rest[-3]), int(rest[-1])
-    return {"rank": Ranked, "lasso": LassoRanked}[word](rank, start, fall)
+    return LassoRanked(rank, start, fall) if word == "lasso" else Ranked(rank, start, fall)

@@ -4,21 +4,14 @@ They decide nothing. `disagreements` compares them with the archive's verdict, a
 """
 from __future__ import annotations
 
-from dataclasses import dataclass
-from operator import mul
 from typing import Iterable, Iterator, NamedTuple, Optional, Sequence, Union
 
-from .answers import Excluded, Grade, LassoRanked, Ordered, Ranked, Settled, Verdict
+from .answers import Excluded, Grade, LassoRanked, Ranked, Settled, Verdict
 from .judging import AnyLoop, Certificate
 from .notation import number_text, tuple_text
 from .packed import Argument, PathLoop, Settling
 from .records import Exclusion, Lasso, Loop, Ranking, Row
 from .refusals import Refusal
-
-
-def dot(left: Iterable[int], right: Iterable[int]) -> int:
-    """The sum of the products of two lists."""
-    return sum(map(mul, left, right))
 
 
 def combined(rows: Sequence[Row], weights: Sequence[int], n: int) -> Row:

@@ -165,6 +165,11 @@ class WhatAPageShows(unittest.TestCase):
     def test_malformed_records(self) -> None:
         text = text_of(make_page(P.to_bytes() + S1.to_bytes()[:-1]))
         self.assertIn("L is 14, so the record has 18 bytes. 17 are there.", text)
+        paths = bytearray(DRAWN_ROWS.to_bytes())
+        paths[8] = 9
+        page = make_page(bytes(paths))
+        self.assertEqual(page.disagreements, ())
+        self.assertIn("The number of paths is 9. It must be 1 to 8.", text_of(page))
         text = text_of(make_page(b""))
         self.assertIn("Refused. loop, 1 at 0: the bytes end early. Nothing after it was judged.", text)
         long = bytearray(S1.to_bytes())

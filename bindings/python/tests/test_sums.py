@@ -2,7 +2,7 @@
 import random
 import unittest
 
-from cushiedoo import Loop, Record, Refusal, Row, certificate_from_bytes, judge, loop_and_certificates, loop_from_bytes
+from cushiedoo import Record, Refusal, Row, certificate_from_bytes, judge, loop_and_certificates, loop_from_bytes
 from cushiedoo.faults import certificate_fault, loop_fault
 from cushiedoo.runs import find_run, is_run
 from cushiedoo.sums import disagreements

@@ -9,22 +9,22 @@ from ..calls import judge_bytes
 from ..faults import Fault, certificate_fault, loop_fault
 from ..judging import AnyLoop, certificate_from_bytes, loop_from_bytes
 from ..layouts import kind_name, kind_of
-from ..notation import MINUS, counted, number_text
+from ..notation import MINUS, counted
 from ..packed import PathLoop, Settling
 from ..parting import MOST_BYTES, loop_and_certificates
-from ..records import Lasso, Loop, Ranking, Row, check_names
-from ..refusals import Record, Refusal
+from ..records import Lasso, Loop, Ranking, check_names
+from ..refusals import Refusal
 from ..sheets import TOO_LONG, Sheet, line_verdict, sheet
-from ..sums import disagreements, first_failure, negative
-from . import kinds
-from .markup import Formulas, element, escaped, heading, marked, paragraph, section
+from ..sums import disagreements, first_failure
+from .account import account
+from .malformed import malformed
+from .markup import Formulas, element, escaped, heading, paragraph, section
 from .running import Running
+from .sentences import follows, verdict_sentence
 from .style import STYLE
 from .tables import labelled, row_list
 
-# A loop that has an exclusion and ends: the example beside each exclusion.
-ENDING = (Row((-1,), (0,), 0), Row((2,), (1,), 10), Row((-2,), (-1,), -10))
-ITS_RUN = "from 3 it goes to 4, 2, 6 and −2, and there it ends"
+NO_PATHS = " A sheet’s text takes no loop of several paths; here each certificate is judged by itself."
 
 
 @dataclass(frozen=True)
@@ -80,8 +80,8 @@ class _Builder:
     def _footer(self) -> str:
         agree = "they disagree, see the top of the page" if self.faults else "they agree"
         return paragraph(
-            "Every verdict and every bound on this page was given by Cushiedoo’s proved checker. The page sets the argument out so that it can be "
-            f"followed by hand. It worked out each sum once more and compared it with the checker’s answer: {agree}."
+            "Every verdict and every bound on this page was given by Cushiedoo’s proved checker. The page sets the argument out so "
+            f"that it can be followed by hand. It worked out each sum once more and compared it with the checker’s answer: {agree}."
         )
 
     def _too_long(self) -> Iterator[str]:
@@ -112,13 +112,15 @@ class _Builder:
     def _refused_loop(self, record: bytes, refusal: Refusal) -> str:
         fault = loop_fault(record)
         self._compare("the loop", refusal, fault)
-        told = self.sheet.loop
-        if not isinstance(told, Refusal) or (told.number, told.place) != (refusal.number, refusal.place):
+        told, note = self.sheet.loop, ""
+        if isinstance(told, Refusal) and (told.number, told.place) == (4, 4) and kind_of(record) == 5:
+            note = NO_PATHS
+        elif not isinstance(told, Refusal) or (told.number, told.place) != (refusal.number, refusal.place):
             self.faults.append("the sheet and the reader tell different refusals of the loop")
         return section(
             heading(2, "The loop" + _badge(False))
             + paragraph(f"Refused. {escaped(str(refusal))}. Nothing after it was judged.", "verdict")
-            + _malformed(record, fault) + _line(self.sheet.lines[0]),
+            + malformed(record, fault) + _line(self.sheet.lines[0], note),
             "loop refused",
         )
 
@@ -131,7 +133,7 @@ class _Builder:
             for i, rows in enumerate(loop.paths, 1):
                 parts.append(heading(3, f"Path {i}"))
                 parts.append(row_list(formulas, labelled(rows)) if rows else paragraph("No row: every pair of states is such a step."))
-            note = " A sheet’s text takes no loop of several paths; here each certificate is judged by itself."
+            note = NO_PATHS
         else:
             known = self.sheet.loop
             if isinstance(known, Refusal) or known is None or (known.n, known.m) != (loop.n, loop.m):
@@ -176,7 +178,7 @@ class _Builder:
         if isinstance(verdict, Refusal) and not verdict.is_condition:
             fault = certificate_fault(data, loop.shape, formulas.names)
             self._compare(what, verdict, fault)
-            argument = _malformed(data, fault)
+            argument = malformed(data, fault)
         elif isinstance(certificate, Refusal):
             self.faults.append(f"{what} is judged, and cannot be read: {certificate}")
             argument = ""
@@ -184,13 +186,13 @@ class _Builder:
             found = [f"{what}: {fault}" for fault in disagreements(loop, certificate, verdict)]
             self.faults.extend(found)
             failure = first_failure(loop, certificate)
-            argument = "".join(kinds.account(formulas, loop, certificate, failure)) + self._follows(formulas, loop, verdict, certificate)
+            argument = "".join(account(formulas, loop, certificate, failure)) + follows(formulas, loop, verdict, certificate)
             if self.state is not None and isinstance(loop, Loop) and isinstance(certificate, (Ranking, Lasso, Settling)):
                 argument += self._run(formulas, loop, certificate, verdict, (record, data), what)
         accepted = not isinstance(verdict, Refusal)
         name = kind_name(kind_of(data)) if kind_of(data) else "no kind"
         title = heading(2, f"Certificate {index + 1}: {name}{_badge(accepted)}")
-        sentence = paragraph(self._verdict_sentence(formulas, verdict), "verdict")
+        sentence = paragraph(verdict_sentence(formulas, verdict), "verdict")
         last = _line(line, note) if line else ""
         kind = f"certificate {'accepted' if accepted else 'refused'}"
         return section(title + sentence + argument + last, kind, id=f"certificate{index + 1}")
@@ -223,66 +225,6 @@ class _Builder:
         self.faults.extend(f"{what}: {fault}" for fault in running.disagreements())
         return "".join(running.html())
 
-    # ---- sentences
-
-    def _verdict_sentence(self, formulas: Formulas, verdict: Verdict) -> str:
-        if isinstance(verdict, Refusal):
-            record = "" if verdict.record is Record.CERTIFICATE else f"{verdict.record.name.lower()}, "
-            return f"Refused: {record}{verdict.number} at {verdict.place}. {escaped(_capital(verdict.words))}."
-        if isinstance(verdict, Excluded):
-            return f"Accepted. {kinds.exclusion_sentence(verdict)}"
-        if isinstance(verdict, Ordered):
-            return f"Accepted. {kinds.ORDERED}"
-        falls = kinds.falls_sentence(formulas, verdict.rank, verdict.start, verdict.fall)
-        if not any(verdict.rank):
-            return f"Accepted. {_no_step(verdict)}"
-        if isinstance(verdict, LassoRanked):
-            return f"Accepted. In every run that starts after a step of the stem, {falls}. So such a run ends."
-        if isinstance(verdict, Settled):
-            return f"Accepted. Once a run has settled, {falls}. So no run goes on for ever."
-        return f"Accepted. {falls}. So the loop ends."
-
-    def _follows(self, formulas: Formulas, loop: AnyLoop, verdict: Verdict, certificate: object) -> str:
-        if isinstance(verdict, Excluded):
-            return paragraph(
-                "<strong>This does not say that the loop runs for ever.</strong> It says that no linear ranking function exists. The loop may "
-                f"end all the same. {_ending_example(loop)}", "warning")
-        if not isinstance(verdict, (Ranked, LassoRanked, Settled)):
-            return ""
-        if not any(verdict.rank):
-            return paragraph(f"The last sum is never true. {_no_step(verdict)}", "so")
-        falls = kinds.falls_sentence(formulas, verdict.rank, verdict.start, verdict.fall)
-        if isinstance(verdict, Settled) and isinstance(certificate, Settling):
-            g = formulas.formula(formulas.sum(certificate.g))
-            return paragraph(
-                f"So {g} grows until it has reached {number_text(certificate.t)}. From a first state that takes at most "
-                f"{formulas.formula(formulas.affine(negative(certificate.g), certificate.t))} steps, or none if this is below 0. "
-                f"From then on {falls}. {kinds.bound_sentence(verdict.start, verdict.fall)}", "so")
-        return paragraph(f"So {falls}. {kinds.bound_sentence(verdict.start, verdict.fall)}", "so")
-
-
-def _ending_example(loop: AnyLoop) -> str:
-    """A loop that has an exclusion and ends all the same."""
-    if isinstance(loop, Loop) and loop.rows == ENDING:
-        return f"This very loop does: {ITS_RUN}."
-    named = Formulas(("x",), 1)
-    first, second, third = map(named.inequality, ENDING)
-    return f"An example: the loop with the rows {first}, {second} and {third} has an exclusion too; {ITS_RUN}."
-
-
-def _no_step(verdict: Union[Ranked, LassoRanked, Settled]) -> str:
-    """The rank is 0: the rows contradict each other."""
-    if isinstance(verdict, LassoRanked):
-        return "The rows and the invariant contradict each other, so no step is taken after a step of the stem."
-    if isinstance(verdict, Settled):
-        return "Once a run has settled, the rows contradict each other, so no step is taken any more. No run goes on for ever."
-    return "The rows contradict each other, so no pair of states is a step. The loop takes none."
-
-
-def _capital(text: str) -> str:
-    return text[:1].upper() + text[1:]
-
-
 def _tally_name(verdict: Verdict) -> str:
     named = {Ranked: "ranking", LassoRanked: "lasso", Excluded: "excluded", Ordered: "ordered", Settled: "settling"}
     return named.get(type(verdict), "refused")
@@ -300,27 +242,3 @@ def _badge(accepted: bool) -> str:
 def _line(line: str, note: str = "") -> str:
     shown = escaped(line.replace("-", MINUS))
     return paragraph(f'The sheet’s line: <code class="sheet">{shown}</code>.{note}', "line")
-
-
-def _malformed(data: bytes, fault: Optional[Fault]) -> str:
-    """What is wrong with a record, and its bytes around the place."""
-    if fault is None:
-        return ""
-    return paragraph(escaped(fault.sentence), "fails") + _bytes_at(data, fault)
-
-
-def _bytes_at(data: bytes, fault: Fault) -> str:
-    """The bytes of a record around a fault, with those that it speaks of marked."""
-    start = {1: len(data), 2: fault.place, 3: 0}.get(fault.number, fault.place)
-    end = {1: start, 2: len(data), 3: min(4, len(data)), 15: start + 2, 16: start + 6}.get(fault.number, start + fault.width)
-    first = max(0, start - 8) // 8 * 8
-    last = min(len(data), max(end, first + 24), first + 48)
-    shown = [f"{byte:02x}" for byte in data[first:last]]
-    inside = slice(max(start - first, 0), max(min(end, last) - first, 0))
-    if shown[inside]:
-        shown[inside] = [marked(" ".join(shown[inside]))]
-    text = " ".join(shown)
-    if fault.number == 1:
-        text += " " + marked("end")
-    dots = ("… " if first else "") + text + (" …" if last < len(data) else "")
-    return paragraph(f"The bytes from byte {first} on: <code>{dots}</code>", "bytes")

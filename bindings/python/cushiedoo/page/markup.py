@@ -102,7 +102,7 @@ class Formulas:
     def sum(self, before: Sequence[int], after: Sequence[int] = (), marks: Iterable[Mark] = ()) -> str:
         """A sum over x and x′. A marked term is there even if it is 0."""
         spots = [mark for mark in marks if mark is not None and mark != RIGHT]
-        parts = []
+        parts: list[str] = []
         for sign, factor, j, primed in terms(before, after, spots):
             term = joint(factor, self.names[j] if len(self.names[j]) > 3 else "x") + self._shown[primed][j]
             if parts:

@@ -6,21 +6,21 @@ bound at any state of the run allows.
 """
 from __future__ import annotations
 
-from typing import Iterator, Optional, Sequence, Union
+from typing import Iterable, Iterator, Optional, Sequence, Union
 
 from ..answers import LassoRanked, Outcome, Ranked, Settled
 from ..calls import bound_bytes
 from ..notation import counted, number_text, sum_text, tuple_text
 from ..packed import Settling
-from ..records import Lasso, Loop, Ranking
+from ..records import Lasso, Loop, Ranking, dot
 from ..refusals import Refusal
 from ..runs import LIMIT, MOST_STEPS, Run, find_run, is_run
-from ..sums import dot
 from .markup import Formulas, element, heading, paragraph
 from .svg import Level, staircase
 
 WithRank = Union[Ranked, LassoRanked, Settled]
 SHOWN = 12  # states in the table; of a longer run the first ones and the last
+ACROSS = 64  # characters that a table across the page may have
 
 
 class Running:
@@ -94,29 +94,27 @@ class Running:
         run, last = self.run, tuple_text(self.run.states[-1])
         found = f"This run takes {counted(run.steps, 'step')}. It is one of many: each next state was chosen to keep the rank large."
         if run.open:
-            most = f"{MOST_STEPS} steps" if run.steps == MOST_STEPS else "as far as it was looked for"
-            return f"These are the first {counted(run.steps, 'step')} of a run ({most}). It is one of many, and it may go on."
+            looked = "" if run.steps == MOST_STEPS else ", as far as it was looked for"
+            return f"This is the start of a run, {counted(run.steps, 'step')}{looked}. It is one of many, and it may go on."
         if run.failing is not None:
             row = self.formulas.inequality(self.loop.rows[run.failing])
             return f"{found} At {last} it ends, since row ({run.failing + 1}), {row}, does not hold there."
         return f"{found} From {last} no next state was found with entries within {number_text(LIMIT)} either way."
 
     def _table(self) -> str:
+        """The states and the values there: across the page if there is room, else down."""
         states = self.run.states
         shown: list[Optional[int]] = list(range(len(states)))
         if len(states) > SHOWN:
             shown = [*range(SHOWN - 2), None, len(states) - 1]
         extra = [self.certificate.g] if isinstance(self.certificate, Settling) else []
-        sums = [*extra, self.verdict.rank]
-        head = "".join(f' <th scope="col">{self.formulas.sum(one)}</th>' for one in sums)
-        lines = [f'<tr><th scope="col">steps</th> <th scope="col">{self.formulas.listed()}</th>{head}</tr>\n']
+        lines = [["steps", self.formulas.listed(), *(self.formulas.sum(one) for one in [*extra, self.verdict.rank])]]
         for i in shown:
-            if i is None:
-                lines.append(f'<tr><td class="none" colspan="{2 + len(sums)}">⋮</td></tr>\n')
-                continue
-            values = "".join(f" <td>{number_text(dot(one, states[i]))}</td>" for one in sums)
-            lines.append(f"<tr><td>{number_text(i)}</td> <td>{tuple_text(states[i])}</td>{values}</tr>\n")
-        return f'<table class="run"><tbody>\n{"".join(lines)}</tbody></table>\n'
+            values = [] if i is None else [number_text(dot(one, states[i])) for one in [*extra, self.verdict.rank]]
+            lines.append(["⋮"] if i is None else [number_text(i), tuple_text(states[i]), *values])
+        if None not in shown and sum(len(max(line, key=len)) for line in lines[1:]) <= ACROSS:
+            return _cells("across", zip(*lines), "row")
+        return _cells("run", lines, "col")
 
     def _figure(self, factors: Sequence[int], values: Sequence[int], level: Level) -> str:
         name = sum_text(factors, (), self.formulas.names)
@@ -127,6 +125,17 @@ class Running:
         if split and split < len(values):
             caption += f" The dotted line: after {counted(split, 'step')} the run has settled."
         return element("figure", staircase(values, level, what, split) + element("figcaption", caption)) + "\n"
+
+
+def _cells(kind: str, lines: Iterable[Sequence[str]], heads: str) -> str:
+    """A table whose heads stand in the first line (col) or before each line (row)."""
+    made = []
+    for i, line in enumerate(lines):
+        cells = [
+            f'<th scope="{heads}">{cell}</th>' if (i if heads == "col" else j) == 0 else f"<td>{cell}</td>" for j, cell in enumerate(line)
+        ]
+        made.append(f"<tr>{' '.join(cells)}</tr>\n")
+    return f'<table class="{kind}"><tbody>\n{"".join(made)}</tbody></table>\n'
 
 
 def _levels(level: Level) -> str:

@@ -46,7 +46,9 @@ tr { break-inside: avoid }
 .step thead th, .run tr:first-child th { border-bottom: 1pt solid var(--ink); font-size: 10pt; color: var(--soft) }
 .step .v, .run td, .run th { padding-right: 5mm }
 .step .v { padding-left: 5mm; white-space: nowrap }
-.run td { text-align: left }
+.across td { text-align: center; padding: .5mm 2.2mm }
+.across th { padding-right: 5mm; font-size: 10pt; color: var(--soft) }
+.across tr:first-child > * { border-bottom: 1pt solid var(--ink) }
 .that { font-weight: 500 }
 .so { margin-top: 4mm; padding-top: 3mm; border-top: .6pt dotted var(--rule) }
 .fails { border: 1pt solid var(--bad); padding: 2mm 3.5mm; break-inside: avoid }
