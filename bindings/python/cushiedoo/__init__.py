@@ -22,16 +22,16 @@ from .judging import AnyLoop, Certificate, bound, certificate_from_bytes, judge,
 from .layouts import Shape
 from .library import LibraryMissing
 from .packed import Argument, Component, Part, PathLoop, Settling
-from .parting import loop_and_certificates, records
+from .parting import loop_and_certificates, parted
 from .records import Exclusion, Lasso, Loop, Ranking, Row
 from .refusals import Record, Refusal, Refused, Where, expect
 from .sheets import Counts, Sheet, sheet
-from .words import words
+from .wording import words
 
 __all__ = [
     "Accepted", "AnyLoop", "Argument", "Bounded", "Certificate", "Component", "Counts", "Excluded", "Exclusion", "Grade", "Lasso",
     "LassoRanked", "LibraryMissing", "Loop", "Ordered", "Outcome", "Part", "PathLoop", "Ranked", "Ranking", "Record", "Refusal",
     "Refused", "Row", "Settled", "Settling", "Shape", "Sheet", "Verdict", "Where", "bound", "certificate_from_bytes", "expect",
-    "judge", "lengthen", "loop_and_certificates", "loop_from_bytes", "read_certificate", "read_loop", "records", "sheet",
+    "judge", "lengthen", "loop_and_certificates", "loop_from_bytes", "parted", "read_certificate", "read_loop", "sheet",
     "sheet_text", "shorten", "words", "write_record",
 ]

@@ -20,7 +20,7 @@ from .parting import MOST_BYTES, taken
 from .records import check_names
 from .runs import LIMIT
 from .sheets import TOO_LONG
-from .words import words
+from .wording import words
 
 PROGRAM = "cushiedoo"
 BAD_INPUT, DISAGREES = 2, 1

@@ -8,7 +8,7 @@ PRIME = "\u2032"
 THIN = "\u202f"  # a narrow blank that is not broken, between groups of three digits
 
 # What would be read as a part of a formula does not belong into a name.
-_NOT_IN_NAMES = "-+=<>,;()'\"\u2212\u2032\u2264\u2265\u00b7"
+_NOT_IN_NAMES = "-+,'\u2212\u2032\u2264\u2265\u00b7"
 _LONGEST_NAME = 40
 
 

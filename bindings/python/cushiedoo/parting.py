@@ -19,10 +19,10 @@ def taken(data: bytes) -> int:
     return 4 + stated if whole else len(data)
 
 
-def records(data: bytes) -> list[bytes]:
+def parted(data: bytes) -> list[bytes]:
     """The records that bytes hold, one after another to the end. No bytes are no records.
 
-    >>> records(bytes([2, 0, 0, 0, 7, 0, 9]))
+    >>> parted(bytes([2, 0, 0, 0, 7, 0, 9]))
     [b'\\x02\\x00\\x00\\x00\\x07\\x00', b'\\t']
     """
     found = []
@@ -36,4 +36,4 @@ def records(data: bytes) -> list[bytes]:
 def loop_and_certificates(data: bytes) -> tuple[bytes, list[bytes]]:
     """The loop record of an input and the certificates after it. The loop of an empty input has no bytes."""
     size = taken(data)
-    return data[:size], records(data[size:])
+    return data[:size], parted(data[size:])

@@ -4,7 +4,7 @@ import unittest
 
 from cushiedoo import (
     Bounded, Excluded, Exclusion, Grade, LassoRanked, Loop, Ordered, Outcome, Ranked, Ranking, Record, Refusal, Refused, Row, Settled,
-    bound, expect, judge, loop_and_certificates, records, sheet, words,
+    bound, expect, judge, loop_and_certificates, parted, sheet, words,
 )
 from cushiedoo.refusals import MEANINGS, Where
 
@@ -111,11 +111,11 @@ class Sheets(unittest.TestCase):
             self.assertEqual(len(list(words(sample(name)))), len(sheet(sample(name)).lines), name)
 
     def test_parting(self) -> None:
-        self.assertEqual(records(b""), [])
+        self.assertEqual(parted(b""), [])
         self.assertEqual(loop_and_certificates(b""), (b"", []))
         self.assertEqual(loop_and_certificates(P.to_bytes() + b"\n"), (P.to_bytes(), [b"\n"]))
         self.assertEqual(sheet(P.to_bytes() + b"\n").text, "loop 2 3\n1 refused 1 1\n")
-        self.assertEqual(records(bytes(4) + S1.to_bytes()), [bytes(4) + S1.to_bytes()])
-        self.assertEqual(records(b"\xff\xff\xff\xff\x02\x00"), [b"\xff\xff\xff\xff\x02\x00"])
+        self.assertEqual(parted(bytes(4) + S1.to_bytes()), [bytes(4) + S1.to_bytes()])
+        self.assertEqual(parted(b"\xff\xff\xff\xff\x02\x00"), [b"\xff\xff\xff\xff\x02\x00"])
         self.assertEqual(sheet(b"\x01" * 65_536).text, "loop refused 1 65536\n")
         self.assertEqual(sheet(b"\x01" * 65_537).text, "input too long\n")

@@ -183,10 +183,10 @@ class WhatAPageShows(unittest.TestCase):
         self.assertIn("No certificate follows the loop", self.page(P))
 
     def test_names_are_escaped(self) -> None:
-        page = make_page(P.to_bytes() + S1.to_bytes(), ("a&b", "π2"), (8, 1), title='<b>"&\'.sheet')
-        self.assertIn("<i>a&amp;b</i> ", page.html)
-        self.assertNotIn("<b>", page.html)
-        self.assertIn("That is a&b − π2 ≥ 2.", text_of(page))
+        page = make_page(P.to_bytes() + S1.to_bytes(), ("<b>&\"", "π2"), (8, 1), title='<b>"&\'.sheet')
+        self.assertIn("<i>&lt;b&gt;&amp;&quot;</i> ", page.html)
+        self.assertNotIn("<b", page.html.replace("<body", ""))
+        self.assertIn('That is <b>&" − π2 ≥ 2.', text_of(page))
 
     def test_the_largest_loop_with_a_state(self) -> None:
         data = sample("large-bound")
