@@ -61,6 +61,8 @@ def main(arguments: Optional[Sequence[str]] = None) -> int:
     """Runs a command and gives the exit code."""
     try:
         chosen = _parser().parse_args(arguments)
+        if sys.stdout is None and getattr(chosen, "output", None) is None:
+            raise BadInput("standard output: cannot be written: it is closed")
         return {"sheet": _sheet, "words": _words, "page": _page}[chosen.command](chosen)
     except (BadInput, LibraryMissing) as fault:
         return _tell(str(fault), BAD_INPUT)
@@ -73,7 +75,8 @@ def main(arguments: Optional[Sequence[str]] = None) -> int:
 
 def _tell(message: str, code: int) -> int:
     line = " ".join(message.split())
-    print(f"{PROGRAM}: {line}".encode("utf-8", "backslashreplace").decode("utf-8"), file=sys.stderr)
+    if sys.stderr is not None:  # it is nothing where standard error is closed
+        print(f"{PROGRAM}: {line}".encode("utf-8", "backslashreplace").decode("utf-8"), file=sys.stderr)
     return code
 
 

@@ -81,15 +81,15 @@ def terms(before: Sequence[int], after: Sequence[int] = (), shown: Iterable[tupl
                 yield Term(MINUS if factor < 0 else "+", abs(factor), variable, primed)
 
 
-def joint(factor: int, name: str) -> str:
-    """What stands before a name: nothing for 1, else the factor, with a dot before a name of several letters.
+def joint(factor: int, single: bool) -> str:
+    """What stands before a name: nothing for 1, else the factor, with a dot unless the name is a single letter.
 
-    >>> joint(1, "x"), joint(2, "x"), joint(2, "speed")
+    >>> joint(1, True), joint(2, True), joint(2, False)
     ('', '2', '2·')
     """
     if factor == 1:
         return ""
-    return number_text(factor) + ("" if len(name) == 1 else "·")
+    return number_text(factor) + ("" if single else "·")
 
 
 def sum_text(before: Sequence[int], after: Sequence[int] = (), names: Sequence[str] = ()) -> str:
@@ -101,7 +101,7 @@ def sum_text(before: Sequence[int], after: Sequence[int] = (), names: Sequence[s
     called = variable_names(names, max(len(before), len(after)))
     text = ""
     for sign, factor, variable, primed in terms(before, after):
-        one = joint(factor, called[variable]) + called[variable] + (PRIME if primed else "")
+        one = joint(factor, len(called[variable]) == 1) + called[variable] + (PRIME if primed else "")
         text += f" {sign} {one}" if text else (MINUS if sign == MINUS else "") + one
     return text or "0"
 

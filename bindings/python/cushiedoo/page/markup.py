@@ -13,6 +13,7 @@ from ..records import Row
 Mark = Optional[tuple[int, bool]]
 RIGHT: Mark = (-1, False)  # marks a right side
 WIDE = 6  # a sum of more terms may be broken between them
+_LETTER_AND_DIGITS = re.compile(r"([^\W\d_])([0-9]+)")
 
 
 def escaped(text: str) -> str:
@@ -66,7 +67,7 @@ def variable(name: str, primed: bool = False) -> str:
     >>> variable("x1", True), variable("speed")
     ('<i>x</i><sub>1</sub>′', '<i>speed</i>')
     """
-    parts = re.fullmatch(r"([^\W\d_])([0-9]+)", name)
+    parts = _LETTER_AND_DIGITS.fullmatch(name)
     shown = f"<i>{escaped(parts[1])}</i><sub>{parts[2]}</sub>" if parts else f"<i>{escaped(name)}</i>"
     return shown + (PRIME if primed else "")
 
@@ -87,6 +88,7 @@ class Formulas:
     def __init__(self, names: Sequence[str], n: int) -> None:
         self.names = variable_names(names, n)
         self.n = n
+        self._single = [len(name) == 1 or bool(_LETTER_AND_DIGITS.fullmatch(name)) for name in self.names]
         self._shown = {primed: [variable(name, primed) for name in self.names] for primed in (False, True)}
         self.row = functools.lru_cache(maxsize=4096)(self._row)
 
@@ -104,7 +106,7 @@ class Formulas:
         spots = [mark for mark in marks if mark is not None and mark != RIGHT]
         parts: list[str] = []
         for sign, factor, j, primed in terms(before, after, spots):
-            term = joint(factor, self.names[j] if len(self.names[j]) > 3 else "x") + self._shown[primed][j]
+            term = joint(factor, self._single[j]) + self._shown[primed][j]
             if parts:
                 term = f"{sign} {term}"
             elif sign == MINUS:

@@ -36,6 +36,8 @@ tr { break-inside: avoid }
 .sum th { padding-left: 6mm }
 .rows th { padding-right: 5mm }
 .l { text-align: right }
+.l:has(span) { text-align: left }
+tr:has(.l span) > * { vertical-align: bottom }
 .r { white-space: nowrap; padding-left: 0 }
 .w { text-align: right; padding-right: 4mm; white-space: nowrap }
 .total td, .total th { border-top: 1pt solid var(--ink); padding-top: 1.2mm }
