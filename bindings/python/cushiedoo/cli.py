@@ -51,7 +51,7 @@ def _parser() -> argparse.ArgumentParser:
 
     one = commands.add_parser("page", help="write a page (HTML) that sets the arguments out", allow_abbrev=False)
     one.add_argument("file", metavar="FILE", help=file_help)
-    one.add_argument("-o", "--output", metavar="OUT", help="the file that gets the page; standard output if it is not named")
+    one.add_argument("-o", "--output", metavar="OUT", help="the file that gets the page; standard output if it is - or not named")
     one.add_argument("--names", help="names of the variables, parted by commas: --names x,y")
     one.add_argument("--state", help="a first state, for a run and its bound: --state 5,3 (--state=-5,3 if it starts with a sign)")
     return parser
@@ -61,6 +61,8 @@ def main(arguments: Optional[Sequence[str]] = None) -> int:
     """Runs a command and gives the exit code."""
     try:
         chosen = _parser().parse_args(arguments)
+        if getattr(chosen, "output", None) == "-":
+            chosen.output = None
         if sys.stdout is None and getattr(chosen, "output", None) is None:
             raise BadInput("standard output: cannot be written: it is closed")
         return {"sheet": _sheet, "words": _words, "page": _page}[chosen.command](chosen)
@@ -126,12 +128,14 @@ def _whole(name: str, data: bytes) -> int:
 
 def _input(name: str) -> bytes:
     """The bytes of a file, and one more than a sheet may have at most: more are not looked at."""
+    if name == "-" and sys.stdin is None:
+        raise BadInput("standard input: cannot be read: it is closed")
     try:
         if name == "-":
             return sys.stdin.buffer.read(MOST_BYTES + 1)
         with open(name, "rb") as file:
             return file.read(MOST_BYTES + 1)
-    except (OSError, ValueError, AttributeError) as fault:
+    except (OSError, ValueError) as fault:
         raise BadInput(f"{name}: cannot be read: {_reason(fault)}") from None
 
 
@@ -144,7 +148,7 @@ def _output(name: Optional[str], content: bytes) -> None:
         sys.stdout.buffer.flush()
     except BrokenPipeError:
         raise
-    except (OSError, ValueError, AttributeError) as fault:
+    except (OSError, ValueError) as fault:
         if name is None:
             _forget_output()
         raise BadInput(f"{name or 'standard output'}: cannot be written: {_reason(fault)}") from None

@@ -1,7 +1,7 @@
 """How bytes end to end are cut into records, as the program `sheet` does it.
 
-A record that states its length takes 4 + L bytes. Fewer than 4 bytes, an L below 2, or an L beyond the bytes that are left take
-all the rest; so do they where a loop is wanted. `crates/record_parting/specs` has this as a definition.
+A record takes 4 + L bytes. One that has fewer than 4 bytes, an L below 2, or an L beyond the bytes that are left takes all the rest,
+and is the last. The loop record is parted from the input by the same rule. `crates/record_parting/specs` has this as a definition.
 """
 from __future__ import annotations
 

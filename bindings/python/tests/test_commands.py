@@ -78,7 +78,9 @@ class Commands(unittest.TestCase):
         done = self.run_it("page", self.sheet, "-o", out, "--names", "x,y", "--state", "5, 3")
         self.assertEqual((done.returncode, done.stdout, done.stderr), (0, b"", b""))
         self.assertIn("takes at most <strong>1 step</strong>", out.read_text("utf-8"))
-        self.assertEqual(self.run_it("page", self.sheet, "--names", "x,y", "--state", "5,3").stdout, out.read_bytes())
+        for output in ((), ("-o", "-")):
+            again = self.run_it("page", self.sheet, "--names", "x,y", "--state", "5,3", *output)
+            self.assertEqual((again.returncode, again.stdout, again.stderr), (0, out.read_bytes(), b""))
         self.assertEqual(self.run_it("page", self.sheet, "--state=-5,−3").returncode, 0)
 
     def test_page_of_an_input_that_is_too_long(self) -> None:

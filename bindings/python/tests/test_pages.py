@@ -188,6 +188,10 @@ class WhatAPageShows(unittest.TestCase):
         self.assertNotIn("<b", page.html.replace("<body", ""))
         self.assertIn('That is <b>&" − π2 ≥ 2.', text_of(page))
 
+    def test_names_and_states_that_do_not_fit(self) -> None:
+        for more in ({"names": ("x",)}, {"names": ("x", "x")}, {"state": (1,)}, {"state": (1, 1_000_001)}):
+            self.assertRaises(ValueError, lambda: make_page(P.to_bytes() + S1.to_bytes(), **more))
+
     def test_the_largest_loop_with_a_state(self) -> None:
         data = sample("large-bound")
         page = make_page(data, tuple(f"v{i}" for i in range(16)), (1_000_000,) * 16)

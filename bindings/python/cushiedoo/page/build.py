@@ -14,6 +14,7 @@ from ..packed import PathLoop, Settling
 from ..parting import MOST_BYTES, loop_and_certificates
 from ..records import Lasso, Loop, Ranking, check_names
 from ..refusals import Refusal
+from ..runs import LIMIT
 from ..sheets import TOO_LONG, Sheet, line_verdict, sheet
 from ..sums import disagreements, first_failure
 from .account import account
@@ -95,6 +96,8 @@ class _Builder:
             yield self._refused_loop(record, loop)
             return
         check_names(self.names, loop.n)
+        if self.state is not None and (len(self.state) != loop.n or any(abs(entry) > LIMIT for entry in self.state)):
+            raise ValueError(f"the state {self.state} is not {loop.n} numbers within {LIMIT:,} either way")
         formulas = Formulas(self.names, loop.n)
         lines = self.sheet.lines[1:]
         if isinstance(loop, Loop) and len(lines) != len(certificates):
