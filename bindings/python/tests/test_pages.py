@@ -155,11 +155,13 @@ class WhatAPageShows(unittest.TestCase):
         marked = make_page(P.to_bytes() + Ranking((1, 0, 0), (0, 1, 0)).to_bytes(), ("x", "y")).html
         self.assertEqual(marked.count("<mark>"), 2)
         text = self.page(S7_LOOP, dataclasses.replace(S7, v=(-1,)), names=("x",))
+        self.assertIn("Refused: 31 at 0. A·V + A′·U is above 0 in row 0, that is row (1).", text)
         self.assertIn("Row (1): the direction adds 1. It must add at most 0.", text)
         text = self.page(CURVE, dataclasses.replace(SETTLING, k=2), names=("x", "y"))
         self.assertIn("In the column of y the sum is −1. It must be −2, that is k times the entry of g, with k = 2.", text)
         swapped = dataclasses.replace(ARGUMENT, components=(ARGUMENT.components[0], dataclasses.replace(ARGUMENT.components[1], start=2)))
         text = self.page(DRAWN_ROWS, swapped)
+        self.assertIn("in path 0, that is path 1.", text)
         self.assertIn("The right side of the sum is −1. It must be at most −2, that is −start of the component.", text)
 
     def test_malformed_records(self) -> None:

@@ -76,7 +76,7 @@ def _exclusion_table(formulas: Formulas, loop: Loop, exclusion: Exclusion, failu
 
 
 def _compared(left: int, right: int) -> str:
-    return f"{number_text(left)} {'≤' if left <= right else '≰'} {number_text(right)}"
+    return f"{number_text(left)} {'≤' if left <= right else '&gt;'} {number_text(right)}"
 
 
 def exclusion_sentence(verdict: Excluded) -> str:

@@ -8,7 +8,7 @@ from ..judging import AnyLoop
 from ..notation import number_text
 from ..packed import Settling
 from ..records import Loop, Row
-from ..refusals import Record, Refusal
+from ..refusals import Record, Refusal, Where
 from ..sums import negative
 from .argument import ORDERED
 from .exclusion import exclusion_sentence
@@ -21,9 +21,12 @@ ITS_RUN = "from 3 it goes to 4, 2, 6 and −2, and there it ends"
 
 
 def verdict_sentence(formulas: Formulas, verdict: Verdict) -> str:
+    """The verdict in a sentence or two."""
     if isinstance(verdict, Refusal):
         record = "" if verdict.record is Record.CERTIFICATE else f"{verdict.record.name.lower()}, "
-        return f"Refused: {record}{verdict.number} at {verdict.place}. {escaped(_capital(verdict.words))}."
+        here = {Where.ROW: f", that is row ({verdict.place + 1})", Where.PATH: f", that is path {verdict.place + 1}"}
+        words = escaped(_capital(verdict.words)) + here.get(verdict.where, "")
+        return f"Refused: {record}{verdict.number} at {verdict.place}. {words}."
     if isinstance(verdict, Excluded):
         return f"Accepted. {exclusion_sentence(verdict)}"
     if isinstance(verdict, Ordered):
@@ -37,7 +40,9 @@ def verdict_sentence(formulas: Formulas, verdict: Verdict) -> str:
         return f"Accepted. Once a run has settled, {falls}. So no run goes on for ever."
     return f"Accepted. {falls}. So the loop ends."
 
+
 def follows(formulas: Formulas, loop: AnyLoop, verdict: Verdict, certificate: object) -> str:
+    """What follows from an accepted argument: the bound's formula, or an exclusion's warning."""
     if isinstance(verdict, Excluded):
         return paragraph(
             "<strong>This does not say that the loop runs for ever.</strong> It says that no linear ranking function exists. The loop may "
