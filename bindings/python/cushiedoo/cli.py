@@ -34,6 +34,7 @@ class _Parser(argparse.ArgumentParser):
     """A parser that tells a fault in one line."""
 
     def error(self, message: str) -> NoReturn:
+        """Raises what is wrong, where argparse would print its usage as well."""
         raise BadInput(f"{message} (python3 -m {PROGRAM} --help tells the commands)")
 
 

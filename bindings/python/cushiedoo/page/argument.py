@@ -12,6 +12,7 @@ from .tables import labelled, sum_table
 
 
 def argument_account(formulas: Formulas, loop: PathLoop, argument: Argument, failure: Failure) -> Iterator[str]:
+    """The argument of kind 6: each path lowers its own component and raises no earlier one."""
     yield heading(3, "The components")
     items = []
     for component in argument.components:

@@ -60,6 +60,7 @@ class _Builder:
     # ---- the whole
 
     def page(self) -> Page:
+        """The page."""
         sections = list(self._too_long() if self.sheet.too_long else self._sections())
         size = "" if self.sheet.too_long else f", {counted(len(self.data), 'byte')}"
         head = heading(1, "A loop and its certificates")

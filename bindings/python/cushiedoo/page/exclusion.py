@@ -13,6 +13,7 @@ from .ranking import Failure
 
 
 def exclusion_account(formulas: Formulas, loop: Loop, exclusion: Exclusion, failure: Failure) -> Iterator[str]:
+    """The argument of kind 3: a step, and a direction that never leaves the rows."""
     q = exclusion.q
     old = [Fraction(w - v, q) for v, w in zip(exclusion.v, exclusion.w)]
     new = [Fraction(w, q) for w in exclusion.w]

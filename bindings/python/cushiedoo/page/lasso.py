@@ -12,6 +12,7 @@ from .tables import labelled, row_list, sum_table
 
 
 def lasso_account(formulas: Formulas, loop: Loop, lasso: Lasso, failure: Failure) -> Iterator[str]:
+    """The argument of kind 4: the stem starts the invariant, the loop keeps it, and with it the ranking holds."""
     invariant = formulas.formula(f"{formulas.affine(lasso.s, lasso.s0)} ≥ 0")
     yield heading(3, "The stem and the invariant")
     if lasso.stem:

@@ -23,6 +23,7 @@ def differs(formulas: Formulas, failure: Condition, why: str = "") -> str:
 
 
 def marks_of(failure: Condition) -> tuple[Mark, ...]:
+    """The place in a sum where a condition fails."""
     return (RIGHT,) if failure.spot is None else (failure.spot,)
 
 
@@ -30,6 +31,7 @@ def ranking_account(
     formulas: Formulas, rows: Sequence[tuple[str, Row]], certificate: Union[Ranking, Lasso, Settling], failure: Failure,
     before: str = "Before each step", during: str = "In each step",
 ) -> Iterator[str]:
+    """The argument of kinds 2 and 7, and the end of those of kinds 4 and 8."""
     plain = [row for _, row in rows]
     by_y, by_z = combined(plain, certificate.y, formulas.n), combined(plain, certificate.z, formulas.n)
     number = failure.number if failure else 0

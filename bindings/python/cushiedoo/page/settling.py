@@ -13,6 +13,7 @@ from .tables import labelled, sum_table
 
 
 def settling_account(formulas: Formulas, loop: Loop, settling: Settling, failure: Failure) -> Iterator[str]:
+    """The argument of kind 8: g·x rises, and once it has reached t the ranking holds."""
     g = formulas.formula(formulas.sum(settling.g))
     yield heading(3, "The rise")
     total = combined(loop.rows, settling.e, formulas.n)
