@@ -6,6 +6,7 @@ from typing import Sequence, Union
 from .answers import Bounded, Verdict
 from .calls import bound_bytes, judge_bytes
 from .layouts import Shape, kind_of, value_at, U16
+from .notation import counted
 from .packed import Argument, PathLoop, Settling
 from .records import Exclusion, Lasso, Loop, Ranking
 from .refusals import Record, Refusal
@@ -114,4 +115,5 @@ def _shape(loop: bytes) -> Union[Shape, None]:
 
 
 def _counts(shape: Shape) -> str:
-    return f"{shape.n} variables and {' + '.join(map(str, shape.rows))} rows"
+    rows = " and ".join(map(str, shape.rows)) + " rows" if len(shape.rows) != 1 else counted(shape.rows[0], "row")
+    return f"{counted(shape.n, 'variable')} and {rows}"

@@ -12,7 +12,7 @@ from typing import Callable, ClassVar, Iterable, Sequence, Union
 
 from . import calls
 from .layouts import Shape, kind_of
-from .notation import name_fault, row_text
+from .notation import counted, name_fault, row_text
 from .refusals import Record, Refusal
 
 
@@ -45,7 +45,7 @@ def check_names(names: Sequence[str], n: int) -> tuple[str, ...]:
     if not named:
         return named
     if len(named) != n:
-        raise ValueError(f"there are {len(named)} names for {n} variables")
+        raise ValueError(f"{counted(len(named), 'name')} for {counted(n, 'variable')}")
     for i, name in enumerate(named):
         fault = name_fault(name) or (f"the name {name!r} is there twice" if name in named[:i] else "")
         if fault:

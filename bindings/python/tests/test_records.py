@@ -139,5 +139,5 @@ class Shapes(unittest.TestCase):
         loop = Loop(1, [Row((0,), (0,), 0)])
         other = Settling((0, 0, 0, 0), 0, 1, (), (1,), (1,))
         self.assertEqual(len(other.to_bytes()), len(Settling((0,), 0, 1, (0,), (0, 0), (0, 0)).to_bytes()))
-        with self.assertRaisesRegex(ValueError, "made for 4 variables and 0 rows, and the loop has 1 variables and 1 rows"):
+        with self.assertRaisesRegex(ValueError, "made for 4 variables and 0 rows, and the loop has 1 variable and 1 row"):
             judge(loop, other)
