@@ -1,6 +1,11 @@
 #!/usr/bin/env bash
+<<<<<<< HEAD
 # Builds and runs everything that stands around the archive: the C header and example, the Rust wrapper, the example that asks
 # a solver, and the second opinion with its generated cases; and whether the proved table of exchanges leaves none out.
+=======
+# Builds and runs everything that stands around the archive: the C header and example, the Rust wrapper, the Python package
+# with its pages, and the second opinion with its generated cases; and whether the proved table of exchanges leaves none out.
+>>>>>>> 2585517150491a14efb9093375d067a2e3908825
 #
 #     tests/run.sh [--cases N] [--seed N] [FOLDER]
 #
@@ -114,10 +119,22 @@ exchanges() {
   tests/exchanges.py check
 }
 
+<<<<<<< HEAD
 # The example that asks a solver, as far as it goes without one.
 proposer() {
   there python3 || return 1
   tests/propose.py
+=======
+# The Python package over a shared library with the archive in it. Its tests need python3's standard library alone.
+python_library() {
+  there python3 && there cc || return 1
+  bindings/python/build "$CUSHIEDOO_LIB_DIR" "$scratch"
+}
+
+python_tests() { # MODULE
+  (cd bindings/python &&
+    CUSHIEDOO_LIBRARY=$scratch/libcushiedoo.so PYTHONDONTWRITEBYTECODE=1 python3 -W error -m unittest "tests.$1")
+>>>>>>> 2585517150491a14efb9093375d067a2e3908825
 }
 
 part "exchanges, none left out" 1 exchanges
@@ -125,6 +142,11 @@ part "proposer, without z3" 0 proposer
 part "c header" 0 c_header
 part "c example" 0 c_example
 part "rust wrapper" 0 rust_wrapper
+part "python library" 0 python_library
+for file in bindings/python/tests/test_*.py; do
+  module=$(basename "$file" .py)
+  part "python ${module#test_}" 0 python_tests "$module"
+done
 part "second opinion, the paper's samples" 0 second_opinion_samples
 part "second opinion, $cases generated cases" 15 second_opinion
 [ "$failed" -eq 0 ]
