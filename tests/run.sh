@@ -1,11 +1,7 @@
 #!/usr/bin/env bash
-<<<<<<< HEAD
-# Builds and runs everything that stands around the archive: the C header and example, the Rust wrapper, the example that asks
-# a solver, and the second opinion with its generated cases; and whether the proved table of exchanges leaves none out.
-=======
 # Builds and runs everything that stands around the archive: the C header and example, the Rust wrapper, the Python package
-# with its pages, and the second opinion with its generated cases; and whether the proved table of exchanges leaves none out.
->>>>>>> 2585517150491a14efb9093375d067a2e3908825
+# with its pages, the example that asks a solver, and the second opinion with its generated cases; and whether the proved
+# table of exchanges leaves none out.
 #
 #     tests/run.sh [--cases N] [--seed N] [FOLDER]
 #
@@ -119,12 +115,12 @@ exchanges() {
   tests/exchanges.py check
 }
 
-<<<<<<< HEAD
 # The example that asks a solver, as far as it goes without one.
 proposer() {
   there python3 || return 1
   tests/propose.py
-=======
+}
+
 # The Python package over a shared library with the archive in it. Its tests need python3's standard library alone.
 python_library() {
   there python3 && there cc || return 1
@@ -134,7 +130,6 @@ python_library() {
 python_tests() { # MODULE
   (cd bindings/python &&
     CUSHIEDOO_LIBRARY=$scratch/libcushiedoo.so PYTHONDONTWRITEBYTECODE=1 python3 -W error -m unittest "tests.$1")
->>>>>>> 2585517150491a14efb9093375d067a2e3908825
 }
 
 part "exchanges, none left out" 1 exchanges
