@@ -30,3 +30,5 @@ pub mod ShortPins
 pub mod ShortVerdictEdges
 -- wrong judges
 pub mod WrongShortJudges
+-- triples and the conversions
+pub mod TriplesWritten
