@@ -144,7 +144,7 @@ pub fn by_ranking(
     if said.number != 0 {
         return refused(2, said.number, said.place);
     }
-    judge_ranked(loopbytes, n, m, certificate, 2, said.ms, rank)
+    judge_ranked(loopbytes, n, m, certificate, 2, 0, rank)
 }
 
 // Kind 3, which has no rank.

@@ -1,5 +1,6 @@
 -- `judge::by_exclusion` meets its contract: the record's body is checked, then judged. Assumes nothing.
 use mathlib.Core.Path.{refl, _∙_}
+use mathlib.Core.Bool.{true}
 use Rattle.record.specs.Layouts.{kindOf}
 use Rattle.record.specs.Wants.{wants-of}
 use Rattle.judge.proofs.ByKind.{body-refused, body-sound}
@@ -31,7 +32,7 @@ judge-excluded-requires c κs =
     let s = called .before .before .before in
     let a = s .args in
     let v = called .exclusion-record in
-    (s .pre .0, body-sound (a .loopbytes .now) (a .n) (a .m) (s .pre .0) (a .certificate .now) 3 (v .result) (v .ensures) refl (c .if1 .left) (s .pre .1 .numbered))
+    (s .pre .0, body-sound (a .loopbytes .now) (a .n) (a .m) (s .pre .0) (a .certificate .now) 3 (v .result) (v .ensures) (record { ranking = true; exclusion = true; lasso = true }) refl (c .if1 .left) (s .pre .1 .numbered))
 
 returns-2 : tie.Need-returns-2
 returns-2 c = search needs

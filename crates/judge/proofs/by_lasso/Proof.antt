@@ -1,5 +1,6 @@
 -- `judge::by_lasso` meets its contract: the record's body is checked, then judged. Assumes nothing.
 use mathlib.Core.Path.{refl, _∙_}
+use mathlib.Core.Bool.{true}
 use Rattle.record.specs.Layouts.{kindOf, has-rank}
 use Rattle.record.specs.Wants.{wants-of}
 use Rattle.judge.proofs.ByKind.{body-refused, body-ranks}
@@ -31,7 +32,7 @@ judge-ranked-requires c κs =
     let s = called .before .before .before in
     let a = s .args in
     let v = called .lasso-record in
-    (s .pre .0, body-ranks (a .loopbytes .now) (a .n) (a .m) (s .pre .0) (a .certificate .now) 4 (v .result) (v .ensures) refl (passed .if1 .left) (s .pre .1 .numbered) refl)
+    (s .pre .0, body-ranks (a .loopbytes .now) (a .n) (a .m) (s .pre .0) (a .certificate .now) 4 (v .result) (v .ensures) (record { ranking = true; exclusion = true; lasso = true }) refl (passed .if1 .left) (s .pre .1 .numbered) refl)
 
 same-length : tie.Need-same-length
 same-length c = search needs

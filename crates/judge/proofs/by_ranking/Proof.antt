@@ -1,8 +1,10 @@
 -- `judge::by_ranking` meets its contract: the record's body is checked, then judged. Assumes nothing.
 use mathlib.Core.Path.{refl, _∙_}
-use Rattle.record.specs.Layouts.{kindOf, has-rank}
+use mathlib.Core.Bool.{true}
+use Rattle.record.specs.Layouts.{kindOf}
 use Rattle.record.specs.Wants.{wants-of}
-use Rattle.judge.proofs.ByKind.{body-refused, body-ranks}
+use Rattle.verdict.specs.Judging.{certificates-judged}
+use Rattle.judge.proofs.ByKind.{body-refused, body-sound, ranking-sound}
 use borrow.Author.Needs.{needs}
 use Rattle.judge.proofs.by_ranking.Statement.{statement}
 use Rattle.judge.proofs.by_ranking.Tie as tie
@@ -24,14 +26,15 @@ returns c =
     (c .refused .ensures ∙ told .0, told .1)
 
 judge-ranked-requires : tie.Need-judge-ranked-requires
-unfolding kindOf wants-of has-rank
+unfolding kindOf wants-of
 judge-ranked-requires c κs =
     let passed = c .before in
     let called = passed .before .before in
     let s = called .before .before .before in
     let a = s .args in
     let v = called .ranking-record in
-    (s .pre .0, body-ranks (a .loopbytes .now) (a .n) (a .m) (s .pre .0) (a .certificate .now) 2 (v .result) (v .ensures) refl (passed .if1 .left) (s .pre .1 .numbered) refl)
+    let sound = body-sound (a .loopbytes .now) (a .n) (a .m) (s .pre .0) (a .certificate .now) 2 (v .result) (v .ensures) (record { ranking = true; exclusion = true; lasso = true }) refl (passed .if1 .left) (s .pre .1 .numbered) in
+    (s .pre .0, ranking-sound certificates-judged (a .loopbytes .now) (a .certificate .now) sound)
 
 same-length : tie.Need-same-length
 same-length c = search needs
