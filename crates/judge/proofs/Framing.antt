@@ -10,18 +10,20 @@ use Rattle.endian.specs.Numbers.{littleAt}
 use Rattle.record.specs.declared.Wanted.{Wanted}
 use Rattle.record.specs.Layouts.{Kind, kindOf, is-known}
 use Rattle.record.specs.Ranges.{variables, rows, within}
-use Rattle.record.specs.Readers.{Reader, framing, stated-length, counts-read, sound, loop-reader}
+use Rattle.record.specs.Readers.{framing, stated-length, kind-number, kind, sound, loop-reader}
 use Rattle.record.specs.Wants.{wants-of}
+use Rattle.record.proofs.KindLaws.{no-loop}
 use Rattle.record.proofs.SoundRecords.{counts-in-range}
 use Rattle.refusal.specs.Tests.{Told, done, refused, first}
 use Rattle.refusal.proofs.TestLaws.{first-told}
 use Rattle.record_check.specs.Checks.{refusal, certificate-check, framed, Framed, Opened}
 use Rattle.record_check.specs.declared.Checked.{Checked}
+use Rattle.record_check.proofs.BodyWays.{unwanted}
 use Rattle.record_check.proofs.CertificateWays.{certificate-unwanted}
 use Rattle.record_check.proofs.FrameWays.{frame-passes}
 use Rattle.verdict.specs.Pairs.{loop-record, certificate-record}
 use Rattle.judge.specs.SoundPairs.{LoopSound}
-use Rattle.judge.proofs.Entered.{certificate-refused}
+use Rattle.judge.proofs.Entered.{loop-refused, certificate-refused}
 use Rattle.judge.proofs.SoundSizes.{loop-kind, loop-says}
 
 -- ---- the frame
@@ -48,6 +50,12 @@ module _ (bytes : List ℕ) (k p : ℕ) (told : first framing (loop-reader bytes
   pub certificate-alike : (wants : Kind → Bool) (loopbytes : List ℕ) → first sound (certificate-record wants (loop-record loopbytes) bytes) ≡ refused k p
   unfolding sound certificate-record loop-reader stated-length first
   certificate-alike wants loopbytes = first-told framing (drop 4 sound) (certificate-record wants (loop-record loopbytes) bytes) k p told
+
+-- a loop record of another kind than 1
+pub unwanted-loop : (bytes : List ℕ) → Framed bytes → (littleAt 2 bytes 4 ≡ 1 → ⊥) → first sound (loop-record bytes) ≡ refused 4 4
+unfolding loop-reader kind kind-number
+unwanted-loop bytes f other =
+    loop-refused bytes (refusal 4 4) (unwanted (loop-reader bytes []) f (no-loop (littleAt 2 bytes 4) other)) (λ e. omega (arith, e))
 
 -- ---- a certificate for a sound loop, past its frame
 

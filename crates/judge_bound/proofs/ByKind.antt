@@ -7,7 +7,7 @@ use lib.IntN.{ℤ}
 use Rattle.record.specs.declared.Wanted.{Wanted}
 use Rattle.record.specs.Layouts.{Kind, kindOf}
 use Rattle.refusal.specs.Faults.{fault-of}
-use Rattle.refusal.specs.Tests.{refused, first}
+use Rattle.refusal.specs.Tests.{first}
 use Rattle.refusal.specs.declared.Fault.{Fault}
 use Rattle.refusal.proofs.FaultLaws.{fault-refused, fault-done}
 use Rattle.record_check.specs.Checks.{Answers}

@@ -1,13 +1,13 @@
 -- The ways through judging by the certificate's kind, one for each return: not short, or too short to have a kind; a short record that is refused; and one that is
 -- judged as the record it stands for.
-use mathlib.Core.Path.{_≡_, refl, sym, ap, _∙_}
-use Prim.Native.Nat.{ℕ, _+_, _*_, _≤_, _<_}
+use mathlib.Core.Path.{_≡_, sym, ap, _∙_}
+use Prim.Native.Nat.{ℕ, _+_, _*_, _≤_}
 use mathlib.Core.Bool.{Bool, true, false, _&&_}
 use mathlib.Core.List.{List, _++_}
 use native.Mathlib.Omega.{arith}
 use lib.Dec.{leb}
 use lib.IntN.{ℤ}
-use lib.ListN.{length, take, drop}
+use lib.ListN.{length, take}
 use lib.Seq.{take-at}
 use borrow.Author.Tests.{leb-true, leb-false}
 use Rattle.endian.specs.Numbers.{littleAt}
@@ -23,13 +23,13 @@ use Rattle.record_short.proofs.ShortSound.{ShortSound, short-sound, short-named
 use Rattle.record_short_write.specs.Rooms.{Lengthens}
 use Rattle.record_short_write.proofs.ConversionWays.{sound-lengthens}
 use Rattle.refusal.specs.Faults.{fault-of}
-use Rattle.refusal.specs.Tests.{done, refused, first}
+use Rattle.refusal.specs.Tests.{done, first}
 use Rattle.refusal.specs.declared.Fault.{Fault}
 use Rattle.refusal.proofs.FaultLaws.{fault-refused, fault-done}
 use Rattle.refusal.proofs.TestLaws.{either, passes-done, done-passes}
 use Rattle.verdict.specs.Bounding.{bounds, bound-of}
 use Rattle.verdict.specs.Judging.{judges, rank-after, judge-of}
-use Rattle.verdict.specs.Pairs.{loop-record, certificate-record}
+use Rattle.verdict.specs.Pairs.{certificate-record}
 use Rattle.verdict.specs.Stages.{refusal-of}
 use Rattle.verdict.proofs.StageLaws.{by-told}
 use Rattle.verdict_short.specs.ShortJudging.{Short-pair, variables-of, rows-of, long-of, of-short, short-pair, judged-or-short, ranked-or-short, bounded-or-short}

@@ -1,9 +1,8 @@
 -- `judge::judge_sound` meets its contract: the frame refuses as judging does, and the kind leads to the rest. Assumes nothing.
-use mathlib.Core.Path.{_≡_, refl, sym, ap, _∙_}
+use mathlib.Core.Path.{_≡_, sym, _∙_}
 use Prim.Native.Nat.{ℕ}
-use mathlib.Core.Bool.{true, false}
+use mathlib.Core.Bool.{true}
 use Rattle.endian.specs.Numbers.{littleAt}
-use Rattle.record.specs.Layouts.{kindOf}
 use Rattle.record.proofs.KindLaws.{unwanted-kind}
 use Rattle.record_check.specs.Checks.{Framed, Opened}
 use Rattle.verdict.specs.Judging.{judge-of, certificates-judged}

@@ -1,5 +1,5 @@
 -- `judge_short::judge_sound` meets its contract: the certificate's kind leads to its judge. Assumes nothing.
-use mathlib.Core.Path.{_≡_, sym, _∙_}
+use mathlib.Core.Path.{sym, _∙_}
 use lib.Dec.{leb}
 use lib.ListN.{length}
 use borrow.Author.Needs.{needs}

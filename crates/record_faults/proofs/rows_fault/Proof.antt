@@ -1,5 +1,5 @@
 -- `record_faults::rows_fault` meets its contract. Assumes nothing.
-use mathlib.Core.Path.{_≡_, refl, sym, ap, _∙_}
+use mathlib.Core.Path.{_≡_, refl, sym, _∙_}
 use Prim.Native.Nat.{_+_, _*_, _≤_, _<_}
 use mathlib.Core.Bool.{true}
 use lib.ListN.{length}
