@@ -2,19 +2,36 @@
  * Cushiedoo: a proved checker of certificates that loops end.
  *
  * The calls of the archive librip.a. Each of them answers every input; the caller need not have checked anything. What
- * is proved of them is listed in docs/PROMISES.md; "01" is the scope paper, whose words are used here.
+ * is proved of them is listed in docs/PROMISES.md; docs/FORMAT.md has the bytes of every record, with examples, what a
+ * certificate must meet and what follows. cushiedoo_words.h beside this file has the refusals in words.
  *
  * Pointers. A list is a pointer and its number of entries (not bytes). A pointer is never null, not even at length 0:
- * pass the address of any object of that type there. A list that a call writes to must not overlap any other list of
- * the same call. Bytes may stand at any address; lists of int64_t are aligned as that type is.
+ * pass the address of any object of that type there (an empty std::vector's data() may be null). Compilers that know
+ * the attribute warn where they see a null pointer. A list that a call writes to must not overlap any other list of the
+ * same call. Bytes may stand at any address; lists of int64_t are aligned as that type is.
  *
  * Lent lists. A call that is done fills the first places of the list or room it was lent, and the rest stays. A refused
  * call changes nothing. No call keeps a pointer or touches anything but its lists, so calls may run at once.
  *
  * Ranges. Variables n: 1 to 16. Loop rows m (of each path) and stem rows ms: 0 to 64 each. Paths of a loop: 1 to 8, and
- * components of an argument for them too. Triples of a short ranking: 0 to 64. Right sides b, d and s0 and the
- * threshold t: 2,000,000,000 either way. Entries of a state: 1,000,000 either way. docs/FORMAT.md has those of the other
- * values. No start or fall is beyond 7,800,000,000,000,000 either way.
+ * components of an argument for them too. Triples of a short ranking: 0 to 64. Entries of A, A', B, B', s and g: 30,000
+ * either way. Right sides b, d and s0, the start of a component and the threshold t: 2,000,000,000 either way. All
+ * multipliers: 0 to 60,000. The scales k and k2, and q: 1 to 60,000. U, V, W and the r of a component: 60,000 either
+ * way; its fall: 1 to 1,000,000. Entries of a state: 1,000,000 either way. CUSHIEDOO_MOST_.. below are these numbers. No
+ * start or fall is beyond 7,800,000,000,000,000 either way.
+ *
+ * Records. A record is L (4 bytes, the number of bytes after it), its kind (2 bytes) and its body; numbers have their
+ * lowest byte first. What L must be, "the stated L", goes by the kind and the counts:
+ *
+ *   kind                             the stated L
+ *   CUSHIEDOO_KIND_LOOP           1  6 + m(4n + 4)
+ *   CUSHIEDOO_KIND_RANKING        2  2 + 4m
+ *   CUSHIEDOO_KIND_EXCLUSION      3  4 + 12n
+ *   CUSHIEDOO_KIND_LASSO          4  18 + 2n + ms(4n + 6) + 6m
+ *   CUSHIEDOO_KIND_PATHS          5  6 + 2p + (m_1 + .. + m_p)(4n + 4), of p paths with m_1 to m_p rows
+ *   CUSHIEDOO_KIND_LEXICOGRAPHIC  6  4 + 2p + 4C(n + 2) + the sum of 2 m_j (2 + c_j), of C components, c_j that of path j
+ *   CUSHIEDOO_KIND_SHORT_RANKING  7  4 + 6c, of c triples
+ *   CUSHIEDOO_KIND_SETTLING       8  12 + 2n + 6m
  *
  * Refusals. Every answer starts with a number and a place:
  *
@@ -29,11 +46,13 @@
  *                                                                                  an argument for kinds 2 to 4
  *                                                                                  and 7
  *   CUSHIEDOO_VALUE      6  value out of range, the first in layout order          its first byte
- *   CUSHIEDOO_ROOM       7  room too small                                         room needed
+ *   CUSHIEDOO_ROOM       7  room too small                                         what is needed: values where a
+ *                                                                                  record is read, bytes where one or
+ *                                                                                  a text is written, n in judging
  *   CUSHIEDOO_FAILS      8  no longer given: 21 to 63 say which condition fails
  *   CUSHIEDOO_STATE      9  state entry out of range, the first                    its index, from 0
  *   CUSHIEDOO_ENTRIES   10  state doesn't have n entries                           number of entries
- *   CUSHIEDOO_OUTSIDE   11  lasso state outside the invariant                      0
+ *   CUSHIEDOO_OUTSIDE   11  lasso state outside the invariant s.x + s0 >= 0        0
  *   CUSHIEDOO_LIST      12  value list of the wrong length                         length needed (1 if ms is absent)
  *   CUSHIEDOO_COMPONENT 14  component number that doesn't exist, the first         its first byte
  *   CUSHIEDOO_ROW       15  row of a short ranking not below m, or not above the   the triple's first byte
@@ -78,9 +97,53 @@
 #include <stddef.h>
 #include <stdint.h>
 
+/* The version of this header, as a number that grows and in its parts. It belongs to the archive of the same clone. */
+#define CUSHIEDOO_VERSION_MAJOR 0
+#define CUSHIEDOO_VERSION_MINOR 1
+#define CUSHIEDOO_VERSION_PATCH 0
+#define CUSHIEDOO_VERSION (10000 * CUSHIEDOO_VERSION_MAJOR + 100 * CUSHIEDOO_VERSION_MINOR + CUSHIEDOO_VERSION_PATCH)
+
+/* The upper ends of the ranges. What goes "either way" starts at minus this. */
+#define CUSHIEDOO_MOST_VARIABLES 16
+#define CUSHIEDOO_MOST_ROWS 64
+#define CUSHIEDOO_MOST_PATHS 8
+#define CUSHIEDOO_MOST_COMPONENTS 8
+#define CUSHIEDOO_MOST_TRIPLES 64
+#define CUSHIEDOO_MOST_ENTRY 30000
+#define CUSHIEDOO_MOST_RIGHT_SIDE 2000000000
+#define CUSHIEDOO_MOST_MULTIPLIER 60000
+#define CUSHIEDOO_MOST_SCALE 60000            /* k, k2 and q */
+#define CUSHIEDOO_MOST_DIRECTION 60000        /* U, V, W and the r of a component */
+#define CUSHIEDOO_MOST_COMPONENT_FALL 1000000 /* of kind 6 */
+#define CUSHIEDOO_MOST_STATE 1000000
+#define CUSHIEDOO_MOST_SHEET 65536 /* bytes; of a longer input the text is "input too long" */
+
+/* The bytes of room that cushiedoo_sheet asks for, enough for the text of every input of this length. */
+#define CUSHIEDOO_SHEET_ROOM(input_len)                                                                                \
+    (47 * ((size_t)(input_len) < CUSHIEDOO_MOST_SHEET ? (size_t)(input_len) : (size_t)CUSHIEDOO_MOST_SHEET) + 306)
+
+/* No pointer that a call is given may be null. */
+#if defined(__GNUC__) || defined(__clang__)
+#define CUSHIEDOO_NONNULL __attribute__((nonnull))
+#else
+#define CUSHIEDOO_NONNULL
+#endif
+
 #ifdef __cplusplus
 extern "C" {
 #endif
+
+/* The kinds of records: what cushiedoo_write_record takes and a reading tells. */
+enum {
+    CUSHIEDOO_KIND_LOOP = 1,
+    CUSHIEDOO_KIND_RANKING = 2,
+    CUSHIEDOO_KIND_EXCLUSION = 3,
+    CUSHIEDOO_KIND_LASSO = 4,
+    CUSHIEDOO_KIND_PATHS = 5,         /* loop of several paths */
+    CUSHIEDOO_KIND_LEXICOGRAPHIC = 6, /* argument for one */
+    CUSHIEDOO_KIND_SHORT_RANKING = 7,
+    CUSHIEDOO_KIND_SETTLING = 8
+};
 
 /* The refusal numbers of the first table above; conditions go by their numbers. */
 enum {
@@ -102,7 +165,7 @@ enum {
     CUSHIEDOO_ZEROS = 16
 };
 
-/* The record that a verdict speaks of. */
+/* Which of its two records a verdict speaks of. These are no kinds: those are CUSHIEDOO_KIND_.. */
 enum {
     CUSHIEDOO_NEITHER = 0,    /* done, 7, 9 and 10 */
     CUSHIEDOO_LOOP = 1,       /* 1 to 6 in the loop record */
@@ -178,7 +241,8 @@ typedef struct {
  * m(2n + 1) of them. Refusals: 1 to 7, in the order 1, 3 (L below 2), 1, 2, 4, 3 (no room for the counts), 5 (n, then
  * m), 3, 6, 7.
  */
-cushiedoo_reading cushiedoo_read_loop(const uint8_t *bytes, size_t bytes_len, int64_t *values, size_t values_len);
+cushiedoo_reading cushiedoo_read_loop(const uint8_t *bytes, size_t bytes_len, int64_t *values, size_t values_len)
+    CUSHIEDOO_NONNULL;
 
 /*
  * Reads a certificate record (kinds 2 to 4) of a loop with n variables and m rows. The values are the body in layout
@@ -186,14 +250,14 @@ cushiedoo_reading cushiedoo_read_loop(const uint8_t *bytes, size_t bytes_len, in
  * Refusals: 1 to 7, in the order of cushiedoo_read_loop, with 5 for n and m as arguments right after 4.
  */
 cushiedoo_reading cushiedoo_read_certificate(const uint8_t *bytes, size_t bytes_len, uint64_t n, uint64_t m,
-                                             int64_t *values, size_t values_len);
+                                             int64_t *values, size_t values_len) CUSHIEDOO_NONNULL;
 
 /*
  * Writes a record of kinds 1 to 4 from its values, which are those that a reading gives. Refusals: 4, 5 (n, m), 12 (ms
  * is absent), 5 (ms), 12, 6, 7, in this order. Places of 4, 5 and 6 are those in the record that would be written.
  */
 cushiedoo_writing cushiedoo_write_record(uint64_t kind, uint64_t n, uint64_t m, const int64_t *values,
-                                         size_t values_len, uint8_t *room, size_t room_len);
+                                         size_t values_len, uint8_t *room, size_t room_len) CUSHIEDOO_NONNULL;
 
 /*
  * Writes a ranking (kind 2) of a loop with n variables and m rows as a short one (kind 7): a count c, then for each row
@@ -201,7 +265,7 @@ cushiedoo_writing cushiedoo_write_record(uint64_t kind, uint64_t n, uint64_t m, 
  * Refusals: those of cushiedoo_read_certificate with kind 2 alone wanted, and 7 last, with the bytes needed.
  */
 cushiedoo_writing cushiedoo_shorten(const uint8_t *ranking, size_t ranking_len, uint64_t n, uint64_t m, uint8_t *room,
-                                    size_t room_len);
+                                    size_t room_len) CUSHIEDOO_NONNULL;
 
 /*
  * Writes a short ranking (kind 7) as the ranking (kind 2) that it stands for: rows that it does not name have zeros. That
@@ -210,15 +274,15 @@ cushiedoo_writing cushiedoo_shorten(const uint8_t *ranking, size_t ranking_len, 
  * by triple 15 and 16, then 6 over all triples, 7.
  */
 cushiedoo_writing cushiedoo_lengthen(const uint8_t *ranking, size_t ranking_len, uint64_t n, uint64_t m, uint8_t *room,
-                                     size_t room_len);
+                                     size_t room_len) CUSHIEDOO_NONNULL;
 
 /*
  * Writes the text that the program "sheet" prints for an input: one loop record, then certificate records to the end.
- * The only refusal is 7. The room that its place tells is 47 * min(input_len, 65,536) + 306 bytes: it depends on the
- * length of the input alone and is enough for every input of that length. A call with an empty room is a cheap way to
- * learn it.
+ * The only refusal is 7. The room that its place tells is CUSHIEDOO_SHEET_ROOM(input_len), that is 47 * min(input_len,
+ * 65,536) + 306 bytes: it depends on the length of the input alone and is enough for every input of that length.
  */
-cushiedoo_writing cushiedoo_sheet(const uint8_t *input, size_t input_len, uint8_t *text, size_t text_len);
+cushiedoo_writing cushiedoo_sheet(const uint8_t *input, size_t input_len, uint8_t *text, size_t text_len)
+    CUSHIEDOO_NONNULL;
 
 /*
  * Judges a certificate for a loop. On acceptance of a ranking, a lasso or a settling the first n numbers of the rank
@@ -234,7 +298,7 @@ cushiedoo_writing cushiedoo_sheet(const uint8_t *input, size_t input_len, uint8_
  * (components), 3, 14 (each path's component number), 3, 6.
  */
 cushiedoo_verdict cushiedoo_judge(const uint8_t *loop, size_t loop_len, const uint8_t *certificate,
-                                  size_t certificate_len, int64_t *rank, size_t rank_len);
+                                  size_t certificate_len, int64_t *rank, size_t rank_len) CUSHIEDOO_NONNULL;
 
 /*
  * Judges a ranking, long or short, or a lasso and tells how many steps a run from the state can take at most. For a
@@ -244,7 +308,7 @@ cushiedoo_verdict cushiedoo_judge(const uint8_t *loop, size_t loop_len, const ui
  * conditions, 11 (of a lasso), in this order.
  */
 cushiedoo_bounded cushiedoo_bound(const uint8_t *loop, size_t loop_len, const uint8_t *certificate,
-                                  size_t certificate_len, const int64_t *state, size_t state_len);
+                                  size_t certificate_len, const int64_t *state, size_t state_len) CUSHIEDOO_NONNULL;
 
 #ifdef __cplusplus
 }

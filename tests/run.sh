@@ -1,6 +1,7 @@
 #!/usr/bin/env bash
-# Builds and runs everything that stands around the archive: the C header and example, the Rust wrapper, and the second
-# opinion with its generated cases; and whether the proved table of exchanges leaves none out.
+# Builds and runs everything that stands around the archive: the C header and example, the Rust wrapper, the Python package
+# with its pages, the example that asks a solver, and the second opinion with its generated cases; and whether the proved
+# table of exchanges leaves none out.
 #
 #     tests/run.sh [--cases N] [--seed N] [FOLDER]
 #
@@ -66,6 +67,22 @@ c_example() {
   diff examples/c/judge.expected "$scratch/judge.out"
 }
 
+# The header as C99 and, where there is a compiler for it, as C++11: no warning, what it states is what the archive answers,
+# its version is the wrapper's, and a null pointer gets a warning.
+c_header() {
+  there cc || return 1
+  local version
+  version=$(sed -n 's/^version = "\(.*\)\.\(.*\)\.\(.*\)"$/10000 * \1 + 100 * \2 + \3/p' bindings/rust/Cargo.toml)
+  local strict=(-Wall -Wextra -pedantic -Werror -Iinclude "-DVERSION=($version)")
+  cc -std=c99 "${strict[@]}" tests/header.c "$CUSHIEDOO_LIB_DIR/librip.a" -o "$scratch/header" || return 1
+  "$scratch/header" || return 1
+  if cc -std=c99 "${strict[@]}" -DWITH_NULL -c tests/header.c -o "$scratch/null.o" 2>"$scratch/null"; then return 1; fi
+  grep -q nonnull "$scratch/null" || return 1
+  command -v c++ >/dev/null || return 0
+  c++ -std=c++11 "${strict[@]}" -x c++ tests/header.c -x none "$CUSHIEDOO_LIB_DIR/librip.a" -o "$scratch/header" || return 1
+  "$scratch/header"
+}
+
 # Each cargo project keeps its own target folder; none needs the network.
 cargo_in() {
   there cargo || return 1
@@ -98,9 +115,33 @@ exchanges() {
   tests/exchanges.py check
 }
 
+# The example that asks a solver, as far as it goes without one.
+proposer() {
+  there python3 || return 1
+  tests/propose.py
+}
+
+# The Python package over a shared library with the archive in it. Its tests need python3's standard library alone.
+python_library() {
+  there python3 && there cc || return 1
+  bindings/python/build "$CUSHIEDOO_LIB_DIR" "$scratch"
+}
+
+python_tests() { # MODULE
+  (cd bindings/python &&
+    CUSHIEDOO_LIBRARY=$scratch/libcushiedoo.so PYTHONDONTWRITEBYTECODE=1 python3 -W error -m unittest "tests.$1")
+}
+
 part "exchanges, none left out" 1 exchanges
+part "proposer, without z3" 0 proposer
+part "c header" 0 c_header
 part "c example" 0 c_example
 part "rust wrapper" 0 rust_wrapper
+part "python library" 0 python_library
+for file in bindings/python/tests/test_*.py; do
+  module=$(basename "$file" .py)
+  part "python ${module#test_}" 0 python_tests "$module"
+done
 part "second opinion, the paper's samples" 0 second_opinion_samples
 part "second opinion, $cases generated cases" 15 second_opinion
 [ "$failed" -eq 0 ]

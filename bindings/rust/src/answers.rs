@@ -49,6 +49,7 @@ pub enum Fails {
 ///     "refused 22, place 1 (column, from 0), in the certificate: (Y - Z)A is not 0 in column 1"
 /// );
 /// ```
+#[must_use]
 #[derive(Clone, Copy, Debug, PartialEq, Eq, Hash)]
 pub struct Refusal {
     /// The number of the refusal: 1 to 12 without 8, which is no longer given, 14 to 16, or that of a condition that fails,
@@ -67,16 +68,19 @@ const PATH: &str = "path, from 0";
 
 impl Refusal {
     /// What the number means, in words.
+    #[must_use]
     pub fn meaning(&self) -> &'static str {
         self.words().0
     }
 
     /// What the place tells, in words.
+    #[must_use]
     pub fn place_meaning(&self) -> &'static str {
         self.words().1
     }
 
     /// Where a condition fails, if that is what the refusal tells.
+    #[must_use]
     pub fn fails(&self) -> Option<Fails> {
         match self.number {
             21..=23 | 41 | 42 | 44 | 45 | 61 | 62 => Some(Fails::InColumn(self.place)),
@@ -196,6 +200,7 @@ impl fmt::Display for Grade {
 }
 
 /// What an accepted certificate shows of its loop.
+#[must_use]
 #[derive(Clone, Copy, Debug, PartialEq, Eq, Hash)]
 pub enum Outcome {
     /// The loop ends: before each step r·x is at least `start`, and the step takes at least `fall` from it. A short ranking
@@ -225,7 +230,21 @@ impl fmt::Display for Outcome {
     }
 }
 
-/// The verdict on a certificate.
+/// The verdict on a certificate. One that is dropped unread gets a warning from the compiler:
+///
+/// ```compile_fail
+/// #![deny(unused_must_use)]
+/// cushiedoo::judge(&[], &[], &mut []);
+/// ```
+///
+/// Looked at, or set aside by name, it gets none:
+///
+/// ```
+/// #![deny(unused_must_use)]
+/// assert!(cushiedoo::judge(&[], &[], &mut []).outcome().is_none());
+/// let _ = cushiedoo::judge(&[], &[], &mut []);
+/// ```
+#[must_use = "the certificate may have been refused"]
 #[derive(Clone, Copy, Debug, PartialEq, Eq, Hash)]
 pub enum Verdict {
     /// The certificate meets the conditions of its kind.
@@ -259,6 +278,7 @@ impl fmt::Display for Verdict {
 }
 
 /// An accepted ranking, lasso or settling with the bound at a state.
+#[must_use]
 #[derive(Clone, Copy, Debug, PartialEq, Eq, Hash)]
 pub struct Bounded {
     /// What judging says of the certificate.
@@ -284,6 +304,7 @@ impl fmt::Display for Bounded {
 }
 
 /// A record that was read: its values fill the first places of the lent list.
+#[must_use]
 #[derive(Clone, Copy, Debug, PartialEq, Eq, Hash)]
 pub struct Reading {
     /// The kind of the record, 1 to 4.

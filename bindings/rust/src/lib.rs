@@ -173,6 +173,7 @@ pub fn sheet(input: &[u8], text: &mut [u8]) -> Result<usize, Refusal> {
 /// ```
 /// assert_eq!(cushiedoo::sheet_text(&[]), "loop refused 1 0\n");
 /// ```
+#[must_use]
 pub fn sheet_text(input: &[u8]) -> String {
     let mut text = Vec::new();
     let written = loop {

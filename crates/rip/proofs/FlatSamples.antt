@@ -3,7 +3,7 @@ use mathlib.Core.Path.{_≡_, refl}
 use lib.IntN.{pos}
 use Rattle.verdict.specs.Outcomes.{numbers}
 use Rattle.verdict.specs.declared.Outcome.the-variants.{Lasso}
-use Rattle.rip.specs.Flat.{flat-reading, flat-writing, flat-bounded}
+use Rattle.rip.specs.Flat.{flat-reading, flat-writing, flat-bounded, flat-batch}
 
 pub readings-flat :
     flat-reading (record { number = 1; place = 2; kind = 3; n = 4; m = 5; count = 6 }) ≡ record { number = 1; place = 2; kind = 3; n = 4; m = 5; count = 6 }
@@ -17,3 +17,6 @@ pub bounds-flat :
     ≡ record { number = 1; place = 2; «record» = 3; outcome = 4; start = pos 73; fall = pos 33; grade = 0; bound = 7 }
 unfolding numbers
 bounds-flat = refl
+
+pub batches-flat : flat-batch (record { number = 1; place = 2; about = 3; count = 4 }) ≡ record { number = 1; place = 2; «record» = 3; count = 4 }
+batches-flat = refl

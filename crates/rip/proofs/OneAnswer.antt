@@ -15,6 +15,8 @@ use Rattle.rip.proofs.cushiedoo_lengthen.Kinds as lengthen
 use Rattle.rip.proofs.cushiedoo_lengthen.Reads as lengthen-reads
 use Rattle.rip.proofs.cushiedoo_judge.Kinds as judge
 use Rattle.rip.proofs.cushiedoo_judge.Reads as judge-reads
+use Rattle.rip.proofs.cushiedoo_judge_all.Kinds as judge-all
+use Rattle.rip.proofs.cushiedoo_judge_all.Reads as judge-all-reads
 use Rattle.rip.proofs.cushiedoo_bound.Kinds as bound
 use Rattle.rip.proofs.cushiedoo_bound.Reads as bound-reads
 use Rattle.rip.proofs.cushiedoo_sheet.Kinds as sheet
@@ -43,6 +45,13 @@ one-answer-lengthen κs a x y s t p q = (p .0 ∙ sym (q .0), p .1 ∙ sym (q .1
 -- lent: the rank list
 pub one-answer-judge : Single 3 judge.ps judge.r judge-reads.Learnt (λ κs s. now (s .1 .1 .0))
 one-answer-judge κs a x y s t p q = (p .0 ∙ sym (q .0), p .1 ∙ sym (q .1))
+
+-- lent: the row of verdicts, and the rank numbers
+pub one-answer-judge-all : Single 4 judge-all.ps judge-all.r judge-all-reads.Learnt (λ κs s. now (s .1 .1 .0))
+one-answer-judge-all κs a x y s t p q = (p .0 ∙ sym (q .0), p .1 .0 ∙ sym (q .1 .0))
+
+pub one-answer-judge-all-ranks : Single 4 judge-all.ps judge-all.r judge-all-reads.Learnt (λ κs s. now (s .1 .1 .1 .0))
+one-answer-judge-all-ranks κs a x y s t p q = (p .0 ∙ sym (q .0), p .1 .1 ∙ sym (q .1 .1))
 
 -- lent to be changed: nothing
 pub one-answer-bound : Single 3 bound.ps bound.r bound-reads.Learnt {L = Unit {0}} (λ κs s. tt)

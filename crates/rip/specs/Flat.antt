@@ -4,6 +4,8 @@ use Rattle.record.specs.declared.Writing.{Writing}
 use Rattle.verdict.specs.declared.Bounded.{Bounded}
 use Rattle.verdict_flat.specs.FlatVerdicts.{flat-verdict}
 use Rattle.verdict_flat.specs.declared.FlatVerdict.{FlatVerdict}
+use Rattle.verdict_batch.specs.declared.Batched.{Batched}
+use Rattle.rip.specs.declared.FlatBatch.{FlatBatch}
 use Rattle.rip.specs.declared.FlatBounded.{FlatBounded}
 use Rattle.rip.specs.declared.FlatReading.{FlatReading}
 use Rattle.rip.specs.declared.FlatWriting.{FlatWriting}
@@ -30,3 +32,6 @@ beside v b =
 
 abbrev pub flat-bounded : Bounded → FlatBounded
 flat-bounded b = beside (flat-verdict (b .verdict)) b
+
+abbrev pub flat-batch : Batched → FlatBatch
+flat-batch b = record { number = b .number; place = b .place; «record» = b .about; count = b .count }

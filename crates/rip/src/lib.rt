@@ -3,6 +3,7 @@
 use record::Reading;
 use record::Writing;
 use verdict::Bounded;
+use verdict_batch::Batched;
 use verdict_flat::FlatVerdict;
 ghost use mathlib.Core.Path.{_≡_};
 ghost use Rattle.record.specs.Readers.{loop-reader, certificate-reader, reads, fills};
@@ -10,8 +11,11 @@ ghost use Rattle.record.specs.Writers.{writer, writes, room-after};
 ghost use Rattle.record_short.specs.Conversions.{shortens, shortened-room, lengthens, lengthened-room};
 ghost use Rattle.verdict_short.specs.Answers.{answered, rank-answered, bounded-answered};
 ghost use Rattle.sheet_text.specs.Sheets.{sheet-answers, room-after as text-after};
+ghost use lib.ListN.{length};
+ghost use Rattle.judge_rows.specs.VerdictRows.{rows-after};
+ghost use Rattle.verdict_batch.specs.Batches.{batch-of, batch-answers, ranks-after};
 ghost use Rattle.verdict_flat.specs.FlatVerdicts.{flat-verdict};
-ghost use Rattle.rip.specs.Flat.{flat-reading, flat-writing, flat-bounded};
+ghost use Rattle.rip.specs.Flat.{flat-reading, flat-writing, flat-bounded, flat-batch};
 
 // ---- answers as C gets them
 
@@ -45,6 +49,15 @@ pub struct FlatBounded {
     pub fall: i64,
     pub grade: usize,
     pub bound: usize,
+}
+
+// The answer of a batch: record is 1 for the loop's refusals and else 0, count the records judged.
+#[repr(C)]
+pub struct FlatBatch {
+    pub number: usize,
+    pub place: usize,
+    pub record: usize,
+    pub count: usize,
 }
 
 // ---- flattening
@@ -85,6 +98,17 @@ fn flat_bounded(b: Bounded) -> FlatBounded
         fall: v.fall,
         grade: v.grade,
         bound: b.bound,
+    }
+}
+
+fn flat_batch(b: Batched) -> FlatBatch
+    ensures { λ f. ⌜ f ≡ flat-batch b ⌝ }
+{
+    FlatBatch {
+        number: b.number,
+        place: b.place,
+        record: b.about,
+        count: b.count,
     }
 }
 
@@ -169,6 +193,22 @@ pub extern "C" fn cushiedoo_judge(
     ensures { λ _. ⌜ now (rank .exit) ≡ rank-answered (now (loopbytes .entry)) (now (certificate .entry)) (now (rank .entry)) ⌝ }
 {
     verdict_flat::flat_verdict(judge_by_kind::judge(loopbytes, certificate, rank))
+}
+
+// Judges a job's certificates at once: the records laid end to end, each with the next n rank numbers as its rank list. C hands over a row
+// of verdicts, each of which is seven numbers of 64 bits.
+#[no_mangle]
+pub extern "C" fn cushiedoo_judge_all(
+    loopbytes: &[u8],
+    records: &[u8],
+    verdicts: &mut [[usize; 7]],
+    ranks: &mut [i64],
+) -> FlatBatch
+    ensures { λ r. ⌜ r ≡ flat-batch (batch-answers (batch-of (now (loopbytes .entry)) (now (records .entry)) (length (now (verdicts .entry))) (length (now (ranks .entry))))) ⌝ }
+    ensures { λ _. ⌜ now (verdicts .exit) ≡ rows-after (now (loopbytes .entry)) (now (records .entry)) (now (verdicts .entry)) (now (ranks .entry)) ⌝ }
+    ensures { λ _. ⌜ now (ranks .exit) ≡ ranks-after (now (loopbytes .entry)) (now (records .entry)) (length (now (verdicts .entry))) (now (ranks .entry)) ⌝ }
+{
+    flat_batch(judge_rows::judge_rows(loopbytes, records, verdicts, ranks))
 }
 
 // Tells how many steps a loop can take from a state, by a certificate that has a rank.

@@ -25,7 +25,7 @@ pub fn put_certificate(
     ensures { λ r. ⌜ Puts (now (text .entry)) place (certificate-line (now (loopbytes .entry)) count (now (certificate .entry))) r (now (text .exit)) ⌝ }
 {
     let mut rank = [0i64; 16];
-    let v = judge::judge_sound(loopbytes, n, m, certificate, &mut rank);
+    let v = judge_short::judge_sound(loopbytes, n, m, certificate, &mut rank);
     sheet_write_lines::put_line(text, place, count, v, &rank[..n])
 }
 

@@ -1,3 +1,4 @@
+pub mod JudgedSizes
 pub mod LineSizes
 pub mod SampleText
 pub mod ToldSizes

@@ -4,9 +4,10 @@ use mathlib.Core.Path.{_≡_, refl, ap}
 use Prim.Native.Nat.{ℕ, suc}
 use mathlib.Core.List.{List, [], _∷_, _++_}
 use native.Mathlib.Omega.{arith}
-use lib.ListN.{length, drop}
+use lib.ListN.{length, set, take, drop}
 use Rattle.record.specs.Contents.{rows-values, row-values, ranking-values, exclusion-values}
 use Rattle.record.specs.Samples as Records
+use Rattle.record_short.proofs.ShortEdges.{S1-short}
 use Rattle.decimal.specs.Decimals.{decimal}
 use Rattle.verdict.specs.Samples.{P, ends-without-rank, halves, with-stem, S1, S7, S8, S9, S10, S11, second-of-P, loop-bytes, ranking-bytes, exclusion-bytes}
 use Rattle.sheet_lines.specs.Words.{bytes, line}
@@ -41,6 +42,25 @@ pub edge-lines :
     × (sheet-text (S1 ++ S1) ≡ bytes "loop refused 4 4\n")
 unfolding computing P S1 Records.P Records.S1
 edge-lines = (refl, refl, refl, refl, refl, refl)
+
+-- a short ranking prints what the ranking prints that it stands for, S1 here; no triple; then S1's triples with a row twice, with a row without weight, and
+-- without the last byte
+pub short-lines :
+    (sheet-text (P ++ S1-short) ≡ bytes "loop 2 3\n1 rank 1 -1 from 2 down 1\n")
+    × (sheet-text (P ++ (4 ∷ 0 ∷ 0 ∷ 0 ∷ 7 ∷ 0 ∷ 0 ∷ 0 ∷ S1-short)) ≡ bytes "loop 2 3\n1 refused 24 0\n2 rank 1 -1 from 2 down 1\n")
+    × (sheet-text (P ++ set S1-short 20 1) ≡ bytes "loop 2 3\n1 refused 15 20\n")
+    × (sheet-text (P ++ set S1-short 18 0) ≡ bytes "loop 2 3\n1 refused 16 14\n")
+    × (sheet-text (P ++ take 25 S1-short) ≡ bytes "loop 2 3\n1 refused 1 25\n")
+unfolding computing P S1-short Records.P
+short-lines = (refl, refl, refl, refl, refl)
+
+-- kinds for which no line is laid down
+pub kinds-without-line :
+    (sheet-text (P ++ (2 ∷ 0 ∷ 0 ∷ 0 ∷ 5 ∷ 0 ∷ 2 ∷ 0 ∷ 0 ∷ 0 ∷ 6 ∷ 0 ∷ 2 ∷ 0 ∷ 0 ∷ 0 ∷ 8 ∷ 0 ∷ [])) ≡ bytes "loop 2 3\n1 refused 4 4\n2 refused 4 4\n3 refused 4 4\n")
+    × (sheet-text (2 ∷ 0 ∷ 0 ∷ 0 ∷ 5 ∷ 0 ∷ S1) ≡ bytes "loop refused 4 4\n")
+    × (sheet-text (S1-short ++ S1-short) ≡ bytes "loop refused 4 4\n")
+unfolding computing P S1 S1-short Records.P Records.S1
+kinds-without-line = (refl, refl, refl)
 
 -- ---- a library that judges the first certificate and repeats its line
 

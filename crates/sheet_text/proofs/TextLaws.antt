@@ -1,4 +1,4 @@
--- The whole text, case by case: too long, or judged; and the certificates' lines, one record after another, as a loop over the input makes them.
+-- The whole text, case by case: too long, or judged; and the certificates' lines, one record after another, as a loop over the input makes them, a short ranking's too.
 -- Assumes nothing.
 use mathlib.Core.Path.{_≡_, refl, ap}
 use Prim.Native.Nat.{ℕ, suc, _+_, _≤_, _<_}
@@ -12,12 +12,18 @@ use lib.Seq.{drop-drop}
 use borrow.Author.Tests.{le-leb, lt-leb}
 use Rattle.decimal.specs.Decimals.{decimal}
 use Rattle.record.specs.Readers.{counts-read, sound}
+use Rattle.record_paths.specs.PathFields.{bytes-alone}
+use Rattle.record_short.specs.ShortRecords.{sound-short}
+use Rattle.record_short.proofs.LengthenShorten.{long-is-sound}
+use Rattle.record_short.proofs.ShortSound.{short-sound}
 use Rattle.refusal.specs.Tests.{Told, done, refused, first}
 use Rattle.refusal.proofs.TestLaws.{failed, passes-done}
 use Rattle.verdict.specs.Pairs.{loop-record}
+use Rattle.verdict_short.specs.ShortJudging.{variables-of, rows-of, long-of, of-short, short-pair}
+use Rattle.verdict_short.proofs.ShortAsLong.{by-long, short-as-long}
 use Rattle.sheet_lines.specs.Words.{bytes, line}
 use Rattle.record_parting.specs.Parting.{taken, first-record, after-first, records}
-use Rattle.sheet_text.specs.Sheets.{variables-in, rows-in, certificate-line, lines, judged, sheet-text, worst, enough-room, answer, filled, sheet-of, sheet-answers, room-after}
+use Rattle.sheet_text.specs.Sheets.{lent, variables-in, rows-in, certificate-line, lines, judged, sheet-text, worst, enough-room, answer, filled, sheet-of, sheet-answers, room-after}
 use Rattle.sheet_lines.proofs.LineLaws.{loop-word, line-loop}
 use Rattle.record_parting.proofs.PartingLaws.{records-none, records-more}
 
@@ -53,6 +59,24 @@ module _ (loop : List ℕ) (count : ℕ) where
       → lines loop count (records (drop from input)) ≡ certificate-line loop count (take end part) ++ lines loop (count + 1) (records (drop (from + end) input))
   unfolding first-record after-first
   lines-turn input part from end part-is end-is some = rw (part-is, end-is, ← drop-drop (taken (drop from input)) from input, add-one) (lines-more (drop from input) some)
+
+-- ---- a short ranking, sound for the loop's n and m, has the line of the record that it stands for
+
+module _ (loop certificate : List ℕ) (loop-sound : first sound (loop-record loop) ≡ done) (short : of-short certificate ≡ true)
+    (short-is-sound : first (sound-short (variables-of (short-pair loop certificate)) (rows-of (short-pair loop certificate))) (bytes-alone certificate) ≡ done) where
+  abbrev long : List ℕ
+  long = long-of (short-pair loop certificate)
+
+  long-is-long : of-short long ≡ false
+  unfolding of-short long-of
+  long-is-long = rw (long-is-sound _ _ certificate (short-sound _ _ certificate short-is-sound) .numbered)
+
+  pub same-line : (count : ℕ) → certificate-line loop count certificate ≡ certificate-line loop count long
+  unfolding certificate-line
+  same-line count =
+      let of-the-short = short-as-long loop certificate loop-sound short-is-sound short lent in
+      let of-the-long = by-long loop long long-is-long lent in
+      rw (of-the-short .0, of-the-short .1, of-the-long .0, of-the-long .1)
 
 -- ---- the text, as the writers make it
 

@@ -1,5 +1,6 @@
 -- 01, "The program "sheet"": the whole text as a function of the whole input, for every input; and what the call answers for every room.
--- The verdicts are those of crate `verdict`. A judge is lent 16 places, for the n entries of r at most.
+-- The verdicts are those of crate `verdict_short`: kind 7 is taken as kind 2 is, and kinds 5, 6 and 8 are refused with 4. A judge is
+-- lent 16 places, for the n entries of r at most.
 use Prim.Native.Nat.{ℕ, suc, _+_, _*_, min}
 use mathlib.Core.Bool.{true, false}
 use mathlib.Core.List.{List, [], _∷_, _++_}
@@ -10,8 +11,8 @@ use Rattle.decimal.specs.Decimals.{decimal}
 use Rattle.record.specs.Readers.{counts-read, sound}
 use Rattle.record.specs.declared.Writing.{Writing}
 use Rattle.refusal.specs.Tests.{Told, done, refused, Test, _at_unless_, first}
-use Rattle.verdict.specs.Judging.{judges, rank-after, judge-of}
 use Rattle.verdict.specs.Pairs.{loop-record}
+use Rattle.verdict_short.specs.ShortJudging.{judged-or-short, ranked-or-short}
 use Rattle.sheet_lines.specs.VerdictLines.{verdict-line}
 use Rattle.sheet_lines.specs.Words.{bytes, line}
 use Rattle.record_parting.specs.Parting.{first-record, after-first, records}
@@ -32,8 +33,8 @@ rows-in loop = counts-read (loop-record loop) .m
 -- the line of a certificate for a loop: its verdict, and the n entries of r, which an accepted rank leaves at the front of the list
 unfoldable pub certificate-line : List ℕ → ℕ → List ℕ → List ℕ
 certificate-line loop count certificate =
-    verdict-line count (judges (judge-of loop certificate lent))
-    (take (variables-in loop) (rank-after (judge-of loop certificate lent) lent))
+    verdict-line count (judged-or-short loop certificate lent)
+    (take (variables-in loop) (ranked-or-short loop certificate lent))
 
 -- one line per certificate, with its count
 unfoldable pub lines : List ℕ → ℕ → List (List ℕ) → List ℕ

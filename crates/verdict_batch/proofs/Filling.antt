@@ -21,12 +21,13 @@ use Rattle.verdict_short.specs.Answers.{answered, rank-answered}
 use Rattle.verdict_batch.specs.Batches.{loop-told, variables, count, numbers-needed, enough-room, batching, batch-of, Batch}
 use Rattle.verdict_batch.specs.Batches.{verdicts-in-turn, ranks-in-turn, stretch, with-stretch, answer, batch-answers, filled, ranked}
 use Rattle.verdict_batch.specs.declared.Batched.{Batched}
-use Rattle.verdict_batch.proofs.InTurn.{verdicts-length, as-one-by-one, so-far, one-turn}
+use Rattle.verdict_batch.proofs.InTurn.{verdicts-length, as-one-by-one, ranks-length, so-far, one-turn}
 
 -- what is known where there is a record to judge
 pub record Entered (b : Batch) (judged : ℕ) : Type 0 where
   pub loop-sound : loop-told (b .loopbytes) ≡ done
   pub count-is : judged ≡ count b
+  pub few : count b ≤ 32
   pub placed : count b ≤ b .places
   pub numbered : numbers-needed b ≤ b .numbers
 
@@ -41,6 +42,7 @@ entered b r is some = by-said (said batching b) refl
         record {
           loop-sound = passes .0;
           count-is = ap (λ x. x .count) (rw e at is);
+          few = leb-true (count b) 32 (room .0);
           placed = leb-true (count b) (b .places) (room .1 .0);
           numbered = leb-true (numbers-needed b) (b .numbers) (room .1 .1 .0);
         }
@@ -122,6 +124,76 @@ module _ {X : Type 0} (f : Verdict → X) (loopbytes bytes : List ℕ) (row : Li
         ap (λ x. with-stretch n i (rank-answered loopbytes c x) (ranks-at i)) (turn .0)
         ∙ ap (λ x. with-stretch n i (rank-answered loopbytes x (stretch n i ranks)) (ranks-at i)) c-is
         ∙ sym (turn .1)
+
+  -- ---- one turn, as the code takes it: from the state after i records to that after i + 1
+
+  pub record State (i from : ℕ) (rows : List X) (numbers : List ℤ) : Type 0 where
+    pub from-is : from ≡ place-of bytes i
+    pub rows-are : rows ≡ row-at i
+    pub numbers-are : numbers ≡ ranks-at i
+
+  module _ (r : Batched) (is : r ≡ batch-answers b) (i from : ℕ) (rows : List X) (numbers : List ℤ) (at : State i from rows numbers) (less : i < r .count) where
+    known : Entered b (r .count)
+    known = entered b r is (omega arith)
+
+    numbers-long : length numbers ≡ length ranks
+    numbers-long = ap length (at .numbers-are) ∙ ranks-length loopbytes (take i (records bytes)) ranks
+
+    rows-long : length rows ≡ length row
+    unfolding count
+    rows-long =
+        let long : length (map f verdicts) ≡ length (records bytes) = length-map verdicts f ∙ verdicts-length loopbytes (records bytes) ranks in
+        ap length (at .rows-are)
+        ∙ length-append (take i (map f verdicts)) (drop i row)
+        ∙ omega (arith, length-take i (map f verdicts), length-drop i row, long, known .count-is, known .placed)
+
+    -- what the calls of a turn ask
+    pub record Asked : Type 0 where
+      pub loop-sound : loop-told loopbytes ≡ done
+      pub starts-within : from ≤ length bytes
+      pub few-before : i < 32
+      pub row-there : i < length rows
+      pub stretch-there : variables loopbytes * i + variables loopbytes ≤ length numbers
+
+    pub asked : Asked
+    unfolding count
+    asked =
+        record {
+          loop-sound = known .loop-sound;
+          starts-within = omega (arith, at .from-is, starts (r .count) i known less);
+          few-before = omega (arith, known .count-is, known .few);
+          row-there = omega (arith, rows-long, known .count-is, known .placed);
+          stretch-there = omega (arith, numbers-long, stretched (r .count) i known less);
+        }
+
+    module _ (end : ℕ) (end-is : end ≡ from + taken (drop from bytes)) where
+      end-there : end ≡ place-of bytes i + taken (drop (place-of bytes i) bytes)
+      end-there = end-is ∙ ap (λ k. k + taken (drop k bytes)) (at .from-is)
+
+      pub ends-within : (from ≤ end) × (end ≤ length bytes)
+      ends-within = let w = ends (r .count) i known less end end-there in (omega (arith, at .from-is, w .0), w .1)
+
+      certificate-is : take (end - from) (drop from bytes) ≡ getD (records bytes) i []
+      certificate-is = ap (λ k. take (end - k) (drop k bytes)) (at .from-is) ∙ record-is (r .count) i known less end end-there
+
+      pub next-state : (v : Verdict) (put : X) (after : List ℤ) → put ≡ f v
+          → v ≡ answered loopbytes (take (end - from) (drop from bytes)) (stretch (variables loopbytes) i numbers)
+          → after ≡ with-stretch (variables loopbytes) i (rank-answered loopbytes (take (end - from) (drop from bytes)) (stretch (variables loopbytes) i numbers)) numbers
+          → State (i + 1) end (set rows i put) after
+      next-state v put after put-is v-is after-is =
+          let n = variables loopbytes in
+          let c = take (end - from) (drop from bytes) in
+          let next : i + 1 ≡ suc i = omega arith in
+          let told : v ≡ answered loopbytes c (stretch n i (ranks-at i)) = v-is ∙ ap (λ x. answered loopbytes c (stretch n i x)) (at .numbers-are) in
+          rw next
+          (record {
+            from-is = end-there;
+            rows-are = ap (λ x. set x i put) (at .rows-are) ∙ ap (set (row-at i) i) put-is ∙ row-turn (r .count) i known less v v c certificate-is told;
+            numbers-are =
+                after-is
+                ∙ ap (λ x. with-stretch n i (rank-answered loopbytes c (stretch n i x)) x) (at .numbers-are)
+                ∙ ranks-turn (r .count) i known less c certificate-is;
+          })
 
   -- ---- after the last
 

@@ -7,7 +7,7 @@ use lib.Seq.{length-take-le}
 use borrow.Author.Needs.{needs}
 use Rattle.sheet_lines.specs.VerdictLines.{verdict-line}
 use Rattle.sheet_text.specs.Sheets.{lent, variables-in, certificate-line}
-use Rattle.sheet_text.proofs.WorstCase.{few-variables}
+use Rattle.sheet_text.proofs.JudgedSizes.{few-variables}
 use Rattle.sheet_put.proofs.put_certificate.Statement.{statement}
 use Rattle.sheet_put.proofs.put_certificate.Tie as tie
 
