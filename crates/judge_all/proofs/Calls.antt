@@ -45,7 +45,7 @@ use Rattle.judge_batch.proofs.enter.Symbol.{name as #enter}
 use Rattle.judge_batch.proofs.judge_part as judge-part
 use Rattle.judge_batch.proofs.judge_part.Symbol.{name as #judge-part}
 use Rattle.judge_all.proofs.Called.{three, called}
-use Rattle.judge_all.proofs.Again.{lends-again, comes-back}
+use Rattle.judge_all.proofs.LentOn.{lends-on, gets-back}
 use Rattle.judge_all.proofs.Handed.{Handed, answer, Loop, Bytes, Shared, Ranks, Lent, Kept}
 
 -- the contracts that are cited
@@ -160,13 +160,13 @@ module _ {M : Type 1} (𝓤 : URA M) (H : Heap 𝓤) (A : Atoms 𝓤) (W : Given
     pub lends : ent 𝓤 (sep 𝓤 (sem 𝓤 H A (Ranks g ys)) (A .lft (g .κ₃) (g .q₃))) (H .⇛ (ex 𝓤 (λ (δ : GName). sep 𝓤 (sem 𝓤 H A (Lent g ν δ ys)) (sem 𝓤 H A (Kept g ν δ ys)))))
     lends = subst (λ (m : ℕ). ent 𝓤 (sep 𝓤 (sem 𝓤 H A (MutSlice (named 3) (g .κ₃) i64 .own (ranks-at-list ys) (sliceVal (g .ranks .ptr) m ∷ []))) (A .lft (g .κ₃) (g .q₃)))
         (H .⇛ (ex 𝓤 (λ (δ : GName). sep 𝓤 (sem 𝓤 H A (MutSlice (named 2) (ν ∷ []) i64 .own (record { ptr = g .ranks .ptr; name = δ; now = ys }) (sliceVal (g .ranks .ptr) m ∷ []))) (sem 𝓤 H A (Kept g ν δ ys))))))
-        long (lends-again i64 (g .κ₃) (ν ∷ []) (g .q₃) (g .ranks .name) (g .ranks .ptr .0) (g .ranks .ptr .1) 𝓤 H A W (named 3) (named 2) ys)
+        long (lends-on i64 (g .κ₃) (ν ∷ []) (g .q₃) (g .ranks .name) (g .ranks .ptr .0) (g .ranks .ptr .1) 𝓤 H A W (named 3) (named 2) ys)
 
     comes : Room i64 (length (g .ranks .now)) → (δ : GName) (zs : List ℤ) → length zs ≡ length ys
         → ent 𝓤 (sep 𝓤 (A .dead (ν ∷ [])) (sep 𝓤 (sem 𝓤 H A (Kept g ν δ ys)) (sem 𝓤 H A (finally i64 δ zs)))) (H .⇛ (sep 𝓤 (sem 𝓤 H A (Ranks g zs)) (A .lft (g .κ₃) (g .q₃))))
     comes room δ zs e = subst (λ (m : ℕ). ent 𝓤 (sep 𝓤 (A .dead (ν ∷ [])) (sep 𝓤 (sem 𝓤 H A (Kept g ν δ ys)) (sem 𝓤 H A (finally i64 δ zs))))
         (H .⇛ (sep 𝓤 (sem 𝓤 H A (MutSlice (named 3) (g .κ₃) i64 .own (ranks-at-list zs) (sliceVal (g .ranks .ptr) m ∷ []))) (A .lft (g .κ₃) (g .q₃)))))
-        long (comes-back i64 (g .κ₃) (ν ∷ []) (g .q₃) (g .ranks .name) (g .ranks .ptr .0) (g .ranks .ptr .1) 𝓤 H A W (named 3) (named 2) ys δ zs (subst (Room i64) (sym long) room) e)
+        long (gets-back i64 (g .κ₃) (ν ∷ []) (g .q₃) (g .ranks .name) (g .ranks .ptr .0) (g .ranks .ptr .1) 𝓤 H A W (named 3) (named 2) ys δ zs (subst (Room i64) (sym long) room) e)
 
     module _ (known : Triple 𝓤 (C #judge-part) (JudgePart 𝓤 H A mem run)) (δ : GName) (from end i : ℕ) where
       abbrev to-part : JudgePart 𝓤 H A mem run .Ghost

@@ -15,7 +15,7 @@ use denote.Lend.{Held}
 use Rattle.verdict.specs.declared.Verdict.{Verdict}
 use Rattle.verdict.proofs.Verdict as Verdicts
 use Rattle.verdict_batch.specs.declared.Batched.{Batched}
-use Rattle.judge_all.proofs.Again.{LentAgain}
+use Rattle.judge_all.proofs.LentOn as LentOn
 use Rattle.judge_all.proofs.Turns as turns
 
 -- the four slices, with their lifetimes and the shares of these
@@ -72,7 +72,7 @@ module _ (g : Handed) where
   Lent ν δ zs = MutSlice (named 2) (ν ∷ []) i64 .own (ranks-as δ zs) (slice-vals (g .ranks))
 
   abbrev pub Kept : ℕ → GName → List ℤ → Fml
-  Kept ν δ zs = LentAgain i64 (g .κ₃) (ν ∷ []) (g .q₃) (g .ranks .name) (g .ranks .ptr .0) (g .ranks .ptr .1) δ zs
+  Kept ν δ zs = LentOn.Kept i64 (g .κ₃) (ν ∷ []) (g .q₃) (g .ranks .name) (g .ranks .ptr .0) (g .ranks .ptr .1) δ zs
 
   -- ---- what is owned between two turns, at a row and at rank numbers
   abbrev pub Ghosts : {M : Type 1} {𝓤 : URA M} → List Verdict → List ℤ → List (Item 𝓤) → List (Item 𝓤)

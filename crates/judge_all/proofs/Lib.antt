@@ -1,4 +1,4 @@
-pub mod Again
+pub mod LentOn
 pub mod Called
 pub mod Turns
 pub mod Handed
