@@ -1,1 +1,2 @@
 pub mod ShortAsLong
+pub mod KindNumbers
