@@ -7,13 +7,7 @@ ghost use Rattle.verdict_short.specs.ShortJudging.{of-short, bounded-or-short};
 use verdict::Bounded;
 
 // A certificate of kind 7 and a state, for a loop record that has been checked.
-pub fn by_short(
-    loopbytes: &[u8],
-    n: usize,
-    m: usize,
-    certificate: &[u8],
-    state: &[i64],
-) -> Bounded
+pub fn by_short(loopbytes: &[u8], n: usize, m: usize, certificate: &[u8], state: &[i64]) -> Bounded
     requires { ⌜ LoopSound (now loopbytes) n m × (of-short (now certificate) ≡ true) ⌝ }
     ensures { λ r. ⌜ r ≡ bounded-or-short (now (loopbytes .entry)) (now (certificate .entry)) (now (state .entry)) ⌝ }
 {

@@ -167,13 +167,7 @@ pub fn by_ranking(
 }
 
 // Kind 4.
-pub fn by_lasso(
-    loopbytes: &[u8],
-    n: usize,
-    m: usize,
-    certificate: &[u8],
-    state: &[i64],
-) -> Bounded
+pub fn by_lasso(loopbytes: &[u8], n: usize, m: usize, certificate: &[u8], state: &[i64]) -> Bounded
     requires { ⌜ LoopSound (now loopbytes) n m × Opened (now certificate) 4 n m ⌝ }
     ensures { λ r. ⌜ r ≡ bounds (bound-of (now (loopbytes .entry)) (now (certificate .entry)) (now (state .entry))) ⌝ }
 {

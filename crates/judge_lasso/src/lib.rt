@@ -138,15 +138,5 @@ pub fn lasso(
     let s = 8 + ms * (4 * n + 4);
     let y = s + 2 * n + 10 + 2 * ms + 2 * m;
     let s0 = endian::i32_at(certificate, s + 2 * n);
-    judge_longer::longer_ranking(
-        &rows[..],
-        start,
-        n,
-        m,
-        &certificate[..],
-        y,
-        s,
-        s0,
-        rank,
-    )
+    judge_longer::longer_ranking(&rows[..], start, n, m, &certificate[..], y, s, s0, rank)
 }
