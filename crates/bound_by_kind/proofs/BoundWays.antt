@@ -1,19 +1,16 @@
 -- The ways through a bound call by the certificate's kind, one for each return: what is told of the records and the state, and what the
 -- definition then answers.
 use mathlib.Core.Path.{_≡_, refl, sym, ap, _∙_}
-use Prim.Native.Nat.{ℕ, _≤_, _<_}
-use mathlib.Core.Bool.{true, false, _&&_}
+use Prim.Native.Nat.{ℕ, _≤_}
+use mathlib.Core.Bool.{true, false}
 use mathlib.Core.List.{List}
 use native.Mathlib.Omega.{arith}
-use lib.Dec.{leb}
 use lib.IntN.{ℤ, pos}
-use lib.ListN.{length}
-use borrow.Author.Tests.{ne-eqb, leb-false}
+use borrow.Author.Tests.{ne-eqb}
 use Rattle.refusal.specs.Tests.{done, refused, first}
-use Rattle.refusal.proofs.TestLaws.{either}
 use Rattle.theory.specs.Rankings.{start, fall}
 use Rattle.theory_settling.specs.Settlings.{longer, unsettled, settling-bound}
-use Rattle.verdict.specs.Bounding.{bounded, bounds, bound-of, certificates-bounded}
+use Rattle.verdict.specs.Bounding.{bounded, bounds, bound-of}
 use Rattle.verdict.specs.Stages.{agreed, refusal, said, verdict-of}
 use Rattle.verdict.specs.StateTests.{state-tests}
 use Rattle.verdict.proofs.StageLaws.{by-told, stage-done, stage-refused, agrees-said}
@@ -31,7 +28,7 @@ use Rattle.judge_bound.proofs.BoundingWays as Rows
 use Rattle.judge_settling.specs.SettlingBy.{SettlingBy}
 use Rattle.judge_settling.specs.SettlingHeld.{settling-held}
 use Rattle.judge_settling.proofs.SettlingContentsHeld.{variables-are, settling-held-is, settling-told}
-use Rattle.judge_settling.proofs.SettlingEntered.{never-0, short-refused, settling-alike, other-alike}
+use Rattle.judge_settling.proofs.SettlingEntered.{never-0}
 use Rattle.bound_by_kind.specs.SettlingBounded.{StateIn, steps-held, settled}
 
 -- the bound by places is the settling's
@@ -104,32 +101,12 @@ module _ (loopbytes certificate : List ℕ) (state : List ℤ) where
       pub by-conditions : settled r (steps-held certificate n state) ≡ settling-bounds b
       by-conditions = by-told (conditions-told p) all-hold one-fails
 
-  -- ---- a certificate that is too short for a kind is refused alike, as a settling or otherwise
-
-  short-either-way : length certificate < 6 → bounds (bound-of loopbytes certificate state) ≡ settling-bounds b
-  unfolding bound-of
-  short-either-way short =
-      let row = bound-of loopbytes certificate state in
-      by-told (loop-told p)
-      (λ loop-sound.
-      short-refused certificate short
-      (λ k q told.
-      sym (Rows.refused-so row 2 k q (Rows.at-certificate row loop-sound k q (other-alike certificate k q told certificates-bounded loopbytes)))
-      ∙ at-certificate loop-sound k q (settling-alike certificate k q told p refl)))
-      (λ k q told. sym (Rows.refused-so row 1 k q (Rows.at-loop row k q told)) ∙ at-loop k q told)
-
-  -- ---- by the certificate's kind, as the code asks it
+  -- ---- by the certificate's kind
 
   pub as-settling : of-settling certificate ≡ true → settling-bounds b ≡ bounded-by-kind loopbytes certificate state
   unfolding bounded-by-kind
   as-settling e = rw e
 
-  pub as-others : (leb 6 (length certificate) && of-settling certificate) ≡ false → bounds (bound-of loopbytes certificate state) ≡ bounded-by-kind loopbytes certificate state
+  pub as-others : of-settling certificate ≡ false → bounds (bound-of loopbytes certificate state) ≡ bounded-by-kind loopbytes certificate state
   unfolding bounded-by-kind
-  as-others none =
-      either (of-settling certificate)
-      (λ e. let short : length certificate < 6 = leb-false _ _ (no-length e) in rw e (short-either-way short))
-      (λ e. rw e)
-    where
-      no-length : of-settling certificate ≡ true → leb 6 (length certificate) ≡ false
-      no-length e = either (leb 6 (length certificate)) (λ long. long ∙ rw (long, e) at none) (λ short. short)
+  as-others e = rw e

@@ -6,6 +6,8 @@ ghost use Prim.Native.Nat.{_+_, _*_, _≤_, _<_};
 ghost use lib.IntN.{natAbs, _-ℤ_};
 ghost use lib.Signed.{ltZ};
 ghost use lib.ListN.{length};
+ghost use Rattle.endian.specs.Numbers.{littleAt};
+ghost use Rattle.record_check.specs.Checks.{Framed};
 ghost use Rattle.verdict_settling.specs.AnswersByKind.{bounding-of};
 ghost use Rattle.verdict_short.specs.Answers.{bounded-answered};
 ghost use Rattle.verdict_settling.specs.SettlingJudging.{settling-bounds};
@@ -83,23 +85,52 @@ fn settling_sound(
     settled_bound(shown, certificate, n, state)
 }
 
-// A certificate of kind 8 and a state.
-fn bound_settling(loopbytes: &[u8], certificate: &[u8], state: &[i64]) -> Bounded
-    ensures { λ r. ⌜ r ≡ settling-bounds (bounding-of (now (loopbytes .entry)) (now (certificate .entry)) (now (state .entry))) ⌝ }
+// A certificate and a state for a loop record that has been checked: the frame is the same for every kind, and the kind decides the rest.
+fn bound_certificate(
+    loopbytes: &[u8],
+    n: usize,
+    m: usize,
+    certificate: &[u8],
+    state: &[i64],
+) -> Bounded
+    requires { ⌜ LoopSound (now loopbytes) n m ⌝ }
+    ensures { λ r. ⌜ r ≡ bounded-answered (now (loopbytes .entry)) (now (certificate .entry)) (now (state .entry)) ⌝ }
 {
-    let said = record_check::check_loop(loopbytes);
+    let head = record_check::frame(certificate);
+    if head.number != 0 {
+        return judge_bound::refused(2, head.number, head.place);
+    }
+    match endian::u16_at(certificate, 4) {
+        2 => judge_bound::by_ranking(loopbytes, n, m, certificate, state),
+        4 => judge_bound::by_lasso(loopbytes, n, m, certificate, state),
+        7 => bound_short::by_short(loopbytes, n, m, certificate, state),
+        8 => settling_sound(loopbytes, n, m, certificate, state),
+        _ => judge_bound::refused(2, 4, 4),
+    }
+}
+
+// A loop record of kind 1 whose frame is right.
+fn bound_rows(loopbytes: &[u8], certificate: &[u8], state: &[i64]) -> Bounded
+    requires { ⌜ Framed (now loopbytes) × (littleAt 2 (now loopbytes) 4 ≡ 1) ⌝ }
+    ensures { λ r. ⌜ r ≡ bounded-answered (now (loopbytes .entry)) (now (certificate .entry)) (now (state .entry)) ⌝ }
+{
+    let said = record_check::loop_record(loopbytes);
     if said.number != 0 {
         return judge_bound::refused(1, said.number, said.place);
     }
-    settling_sound(loopbytes, said.n, said.m, certificate, state)
+    bound_certificate(loopbytes, said.n, said.m, certificate, state)
 }
 
 // The bound on steps from a state, by a certificate's bytes for a loop's bytes.
 pub fn bound(loopbytes: &[u8], certificate: &[u8], state: &[i64]) -> Bounded
     ensures { λ r. ⌜ r ≡ bounded-answered (now (loopbytes .entry)) (now (certificate .entry)) (now (state .entry)) ⌝ }
 {
-    if judge_settling::is_settling(certificate) {
-        return bound_settling(loopbytes, certificate, state);
+    let head = record_check::frame(loopbytes);
+    if head.number != 0 {
+        return judge_bound::refused(1, head.number, head.place);
     }
-    bound_short::bound(loopbytes, certificate, state)
+    match endian::u16_at(loopbytes, 4) {
+        1 => bound_rows(loopbytes, certificate, state),
+        _ => judge_bound::refused(1, 4, 4),
+    }
 }

@@ -1,6 +1,5 @@
 -- The kinds that have a rank, and their numbers.
 use mathlib.Core.Path.{_≡_, refl}
-use mathlib.Core.Logic.{_⊎_, inl, inr}
 use Prim.Native.Nat.{ℕ}
 use mathlib.Core.Bool.{Bool, true, false≢true}
 use mathlib.Core.List.{List}
@@ -20,11 +19,6 @@ by-rank P lasso h r l = l
 by-rank P other h r l = absurd (false≢true h)
 
 -- 2 and 4, and no others
-pub two-or-four : (x : ℕ) → (x ≡ 2) ⊎ (x ≡ 4) → has-rank (kindOf x) ≡ true
-unfolding kindOf has-rank
-two-or-four x (inl two) = rw two
-two-or-four x (inr four) = rw four
-
 pub by-number : {X : Type 0} (x : ℕ) → has-rank (kindOf x) ≡ true → (x ≡ 2 → X) → (x ≡ 4 → X) → X
 unfolding has-rank
 by-number {X} x ranked two four =

@@ -5,9 +5,7 @@ use Prim.Native.Nat.{ℕ}
 use mathlib.Core.Bool.{true, false}
 use mathlib.Core.List.{List, []}
 use lib.IntN.{ℤ}
-use borrow.Author.Tests.{eq-eqb, ne-eqb, eqb-true}
-use Rattle.endian.specs.Numbers.{littleAt}
-use Rattle.record.specs.Readers.{framing, stated-length, sound, loop-reader}
+use Rattle.record.specs.Readers.{framing, sound, loop-reader}
 use Rattle.record_paths.specs.PathFields.{bytes-alone}
 use Rattle.refusal.specs.Tests.{done, refused, first}
 use Rattle.refusal.proofs.TestLaws.{either}
@@ -21,44 +19,13 @@ use Rattle.verdict_paths.proofs.PathDemands.{by-paths, by-rows, frame-either-wa
 use Rattle.verdict_settling.specs.AnswersByKind.{of-settling, settles, pair-of, judged-by-kind, rank-by-kind}
 use Rattle.verdict_short.specs.Answers.{is-short, answered, rank-answered}
 use Rattle.verdict_short.specs.ShortJudging.{of-short, judged-or-short, ranked-or-short}
+use Rattle.verdict_short.proofs.KindNumbers.{eight-not-short, frame-alone}
 use Rattle.verdict_short.proofs.ShortAsLong.{loop-refused-alike, unframed-alike}
 use Rattle.judge.proofs.Framing.{loop-alike, certificate-alike}
 use Rattle.judge.proofs.JudgingWays as Rows
 use Rattle.judge_settling.proofs.SettlingEntered.{settling-alike}
 use Rattle.judge_by_kind.specs.SettlingShown.{SettlingJudged}
 use Rattle.judge_by_kind.proofs.SettlingWays as Settling
-
--- ---- the kinds, as the definitions ask for them
-
-module _ (certificate : List ℕ) where
-  pub seven : littleAt 2 certificate 4 ≡ 7 → of-short certificate ≡ true
-  unfolding of-short
-  seven is = eq-eqb (littleAt 2 certificate 4) 7 is
-
-  pub eight : littleAt 2 certificate 4 ≡ 8 → of-settling certificate ≡ true
-  unfolding of-settling
-  eight is = eq-eqb (littleAt 2 certificate 4) 8 is
-
-  eight-not-short : of-settling certificate ≡ true → of-short certificate ≡ false
-  unfolding of-settling of-short
-  eight-not-short e = rw (eqb-true (littleAt 2 certificate 4) 8 e)
-
-  pub none-of-them : (littleAt 2 certificate 4 ≡ 7 → ⊥) → (littleAt 2 certificate 4 ≡ 8 → ⊥) → (of-short certificate ≡ false) × (of-settling certificate ≡ false)
-  unfolding of-settling of-short
-  none-of-them no-seven no-eight = (ne-eqb (littleAt 2 certificate 4) 7 no-seven, ne-eqb (littleAt 2 certificate 4) 8 no-eight)
-
-pub five : (loopbytes : List ℕ) → littleAt 2 loopbytes 4 ≡ 5 → of-paths loopbytes ≡ true
-unfolding of-paths
-five loopbytes is = eq-eqb (littleAt 2 loopbytes 4) 5 is
-
-pub not-five : (loopbytes : List ℕ) → (littleAt 2 loopbytes 4 ≡ 5 → ⊥) → of-paths loopbytes ≡ false
-unfolding of-paths
-not-five loopbytes other = ne-eqb (littleAt 2 loopbytes 4) 5 other
-
--- the frame is one for all records
-frame-alone : (bytes : List ℕ) → first framing (loop-reader bytes []) ≡ first framing (bytes-alone bytes)
-unfolding first stated-length loop-reader bytes-alone
-frame-alone bytes = refl
 
 module _ (loopbytes certificate : List ℕ) (lent : List ℤ) where
   abbrev pub Answers : Verdict → List ℤ → Type 0

@@ -35,10 +35,6 @@ use Rattle.verdict.proofs.StageLaws.{by-told}
 use Rattle.verdict_short.specs.ShortJudging.{Short-pair, variables-of, rows-of, long-of, of-short, short-pair, judged-or-short, ranked-or-short, bounded-or-short}
 use Rattle.verdict_short.proofs.ShortAsLong.{by-long, short-as-long, short-refused, unframed-alike}
 
--- the record has a kind, and it is 7
-abbrev pub known-short : List ℕ → Type 0
-known-short certificate = (leb 6 (length certificate) && of-short certificate) ≡ true
-
 -- ---- not known to be short
 
 framed-long : (bytes : List ℕ) → first framing (bytes-alone bytes) ≡ done → 6 ≤ length bytes

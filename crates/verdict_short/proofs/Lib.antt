@@ -32,3 +32,5 @@ pub mod ShortVerdictEdges
 pub mod WrongShortJudges
 -- triples and the conversions
 pub mod TriplesWritten
+-- the kinds by their numbers, as the calls read them
+pub mod KindNumbers

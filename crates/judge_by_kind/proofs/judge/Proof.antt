@@ -1,9 +1,10 @@
 -- `judge_by_kind::judge` meets its contract: the loop's frame refuses alike whatever the kind, and the kind leads to its judge. Assumes nothing.
-use mathlib.Core.Path.{_≡_, sym, _∙_}
+use mathlib.Core.Path.{sym, _∙_}
 use borrow.Author.Needs.{needs}
 use Rattle.record_check.specs.Checks.{Framed}
 use Rattle.judge.proofs.Framing.{frame-told, well-framed, unwanted-loop}
-use Rattle.judge_by_kind.proofs.AnswerWays.{five, not-five, as-paths, loop-refused, loop-unframed}
+use Rattle.verdict_short.proofs.KindNumbers.{five, not-five}
+use Rattle.judge_by_kind.proofs.AnswerWays.{as-paths, loop-refused, loop-unframed}
 use Rattle.judge_by_kind.proofs.judge.Statement.{statement}
 use Rattle.judge_by_kind.proofs.judge.Tie as tie
 

@@ -1,5 +1,5 @@
 -- `judge_by_kind::judge_certificate` meets its contract: the frame refuses alike whatever the kind, and the kind leads to its judge. Assumes nothing.
-use mathlib.Core.Path.{_≡_, refl, sym, _∙_}
+use mathlib.Core.Path.{_≡_, sym, _∙_}
 use Prim.Native.Nat.{ℕ}
 use mathlib.Core.Bool.{true, false}
 use native.Mathlib.Omega.{arith}
@@ -13,7 +13,8 @@ use Rattle.verdict_paths.specs.JudgingByLoop.{of-paths}
 use Rattle.verdict_paths.proofs.PathDemands.{kind-1-by-rows}
 use Rattle.judge.proofs.Framing.{frame-told, well-framed, opened, unwanted-told}
 use Rattle.judge.proofs.JudgingWays as Rows
-use Rattle.judge_by_kind.proofs.AnswerWays.{Answers, seven, eight, none-of-them, as-short, as-settling, as-others, unframed}
+use Rattle.verdict_short.proofs.KindNumbers.{seven, eight, none-of-them}
+use Rattle.judge_by_kind.proofs.AnswerWays.{Answers, as-short, as-settling, as-others, unframed}
 use Rattle.judge_by_kind.proofs.judge_certificate.Statement.{statement}
 use Rattle.judge_by_kind.proofs.judge_certificate.Tie as tie
 

@@ -5,7 +5,8 @@ use native.Mathlib.Omega.{arith}
 use borrow.Author.Needs.{needs}
 use Rattle.verdict_paths.specs.JudgingByLoop.{of-paths}
 use Rattle.judge.proofs.Entered as Entered
-use Rattle.judge_by_kind.proofs.AnswerWays.{not-five, loop-refused}
+use Rattle.verdict_short.proofs.KindNumbers.{not-five}
+use Rattle.judge_by_kind.proofs.AnswerWays.{loop-refused}
 use Rattle.judge_by_kind.proofs.judge_rows.Statement.{statement}
 use Rattle.judge_by_kind.proofs.judge_rows.Tie as tie
 
