@@ -5,7 +5,7 @@ use Rattle.record_check.specs.Checks.{Framed}
 use Rattle.refusal.specs.Faults.{fault-of}
 use Rattle.refusal.specs.Tests.{number, place}
 use Rattle.judge.proofs.Framing.{frame-told, well-framed}
-use Rattle.judge_by_kind.proofs.AnswerWays.{five, not-five}
+use Rattle.verdict_short.proofs.KindNumbers.{five, not-five}
 use Rattle.judge_batch.proofs.LoopsChecked.{as-paths, as-rows, as-framed, fault-checked}
 use Rattle.judge_batch.proofs.check_loop.Statement.{statement}
 use Rattle.judge_batch.proofs.check_loop.Tie as tie

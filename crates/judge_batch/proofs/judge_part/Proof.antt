@@ -10,7 +10,7 @@ use Rattle.refusal.specs.Tests.{done, first}
 use Rattle.verdict.specs.Pairs.{loop-record}
 use Rattle.verdict_paths.specs.JudgingByLoop.{of-paths}
 use Rattle.verdict_batch.specs.Batches.{variables}
-use Rattle.judge_by_kind.proofs.AnswerWays.{five, not-five}
+use Rattle.verdict_short.proofs.KindNumbers.{five, not-five}
 use Rattle.judge_batch.proofs.PartWays.{room-so, paths-part, rows-part}
 use Rattle.judge_batch.proofs.LoopsChecked.{as-paths, as-rows, sound-rows, loop-long}
 use Rattle.judge_batch.proofs.judge_part.Statement.{statement}
