@@ -3,8 +3,8 @@
 lists, are exchanged.
 
     tests/exchanges.py table           the lines of the proved tables
-    tests/exchanges.py check           whether specs/Exchanged.antt of crates verdict_exchanges, verdict_paths_exchanges and
-                                       verdict_settling_exchanges have these lines and no others
+    tests/exchanges.py check           whether specs/Exchanged.antt of crates verdict_exchanges, verdict_paths_exchanges,
+                                       verdict_settling_exchanges and verdict_short_exchanges have these lines and no others
     tests/exchanges.py sheet KIND      a sheet: the loop, the certificate of that kind, and every exchanged one
     tests/exchanges.py text KIND       the text that the sheet must have
 
@@ -56,6 +56,14 @@ ONE_ARGUMENT = {"components": [([-4, -13], 8, 1)], "parts": [(0, [[13, 6, 2], [1
 SETTLING_LOOP = {"A": [[-13, 11], [6, -2], [3, -11]], "A'": [[5, -10], [-14, 12], [15, 2]], "b": [-4, 4, 1]}
 SETTLING = {"g": [-6, 2], "t": -2, "k": 8, "E": [6, 3, 4], "Y": [13, 10, 5, 12], "Z": [7, 2, 1, 9]}
 
+# 02, Q-6: a loop of eight rows, three of which have weight, and a short ranking for it: row, Y, Z
+SHORT_LOOP = {
+    "A": [[-1, 3], [-4, 6], [5, -20], [7, -11], [-2, 10], [-18, 2], [13, -5], [1, -16]],
+    "A'": [[-13, 9], [14, 12], [18, -9], [8, -3], [15, -6], [-8, 4], [-12, 11], [-7, 16]],
+    "b": [-7, 3, -5, 8, -2, 1, 6, -9],
+}
+SHORT = {"triples": [(1, 0, 7), (2, 4, 6), (5, 9, 8)]}
+
 # ---- layouts: a list of (name, form, numbers) in 01's order, after length and kind
 
 WIDTH = {"u16": 2, "i16": 2, "i32": 4}
@@ -85,6 +93,8 @@ def layout(kind, c):
         for r, start, fall in c["components"]:
             parts += [("r", "i32", r), ("δ0", "i32", [start]), ("δ", "i32", [fall])]
         return parts + [("weights", "u16", ys) for _, lists in c["parts"] for ys in lists]
+    if kind == 7:
+        return [("c", "u16", [len(c["triples"])])] + [("triple", "u16", list(t)) for t in c["triples"]]
     if kind == 8:
         return [("g", "i16", c["g"]), ("t", "i32", [c["t"]]), ("k", "u16", [c["k"]])] + [(name, "u16", c[name]) for name in "EYZ"]
     return (
@@ -138,7 +148,7 @@ def exchanged(data, width, p, q):
     return data[:p] + data[q:q + width] + data[p + width:q] + data[p:p + width] + data[q + width:]
 
 
-# ---- 01's judge and 02's of settlings, as plainly as it can be written: (number, place, record) of a refusal, or the outcome of an acceptance
+# ---- 01's judge and 02's of short rankings and settlings, as plainly as it can be written: (number, place, record) of a refusal, or the outcome of an acceptance
 
 
 class Refused(Exception):
@@ -216,6 +226,26 @@ def ranked(n, rows, Y, Z):
     return [total(Z, column(rows, 1, j)) for j in range(n)], -total(Y, b), -total(Z, b)
 
 
+def triples_of(data, m):
+    """Y and Z of every row: those of the triple with that row, 0 where there is none."""
+    count = number(data, 6, "u16")
+    if count > 64:
+        raise Refused(5, 6, 2)
+    if len(data) - 4 != 4 + 6 * count:
+        raise Refused(3, 0, 2)
+    places = range(8, 8 + 6 * count, 6)
+    triples = [[number(data, at + 2 * i, "u16") for i in range(3)] for at in places]
+    for i, (at, (row, y, z)) in enumerate(zip(places, triples)):
+        if row >= m or (i > 0 and row <= triples[i - 1][0]):
+            raise Refused(15, at, 2)
+        if y == z == 0:
+            raise Refused(16, at, 2)
+    Y, Z = [0] * m, [0] * m
+    for at, (row, _, _) in zip(places, triples):
+        (Y[row], Z[row]), _ = take(data, at + 2, "multiplier", 2, 2)
+    return Y, Z
+
+
 def judge(loop, certificate):
     try:
         n, rows = loop_of(loop)
@@ -233,6 +263,9 @@ def judge(loop, certificate):
             each(31, m, lambda i: total(rows[i][0], V) + total(rows[i][1], U) <= 0)
             each(32, m, lambda i: total(rows[i][0], before) + total(rows[i][1], W) <= q * rows[i][2])
             return ("excluded", "whole" if all(z % q == 0 for z in V + W) else "fractions")
+        if kind == 7:
+            Y, Z = triples_of(certificate, m)
+            return ("rank",) + ranked(n, rows, Y, Z)
         if kind == 8:
             if len(certificate) - 4 != 12 + 2 * n + 6 * m:
                 raise Refused(3, 0, 2)
@@ -356,6 +389,7 @@ CASES = {
     "one-argument": (record(5, ONE_PATH), record(6, ONE_ARGUMENT), 2, 6, ONE_ARGUMENT),
     "settled-loop": (record(1, SETTLING_LOOP), record(8, SETTLING), 1, 1, SETTLING_LOOP),
     "settling": (record(1, SETTLING_LOOP), record(8, SETTLING), 2, 8, SETTLING),
+    "short": (record(1, SHORT_LOOP), record(7, SHORT), 2, 7, SHORT),
 }
 
 # the crates that have them
@@ -363,6 +397,7 @@ TABLES = {
     "verdict_exchanges": ("loop", "ranking", "exclusion", "lasso"),
     "verdict_paths_exchanges": ("paths", "argument", "one-path", "one-argument"),
     "verdict_settling_exchanges": ("settled-loop", "settling"),
+    "verdict_short_exchanges": ("short",),
 }
 
 

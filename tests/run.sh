@@ -1,6 +1,7 @@
 #!/usr/bin/env bash
-# Builds and runs everything that stands around the archive: the C header and example, the Rust wrapper, the example that asks
-# a solver, and the second opinion with its generated cases; and whether the proved table of exchanges leaves none out.
+# Builds and runs everything that stands around the archive: the C header and example, the Rust wrapper, the Python package
+# with its pages, the example that asks a solver, and the second opinion with its generated cases; and whether the proved
+# table of exchanges leaves none out.
 #
 #     tests/run.sh [--cases N] [--seed N] [FOLDER]
 #
@@ -120,11 +121,27 @@ proposer() {
   tests/propose.py
 }
 
+# The Python package over a shared library with the archive in it. Its tests need python3's standard library alone.
+python_library() {
+  there python3 && there cc || return 1
+  bindings/python/build "$CUSHIEDOO_LIB_DIR" "$scratch"
+}
+
+python_tests() { # MODULE
+  (cd bindings/python &&
+    CUSHIEDOO_LIBRARY=$scratch/libcushiedoo.so PYTHONDONTWRITEBYTECODE=1 python3 -W error -m unittest "tests.$1")
+}
+
 part "exchanges, none left out" 1 exchanges
 part "proposer, without z3" 0 proposer
 part "c header" 0 c_header
 part "c example" 0 c_example
 part "rust wrapper" 0 rust_wrapper
+part "python library" 0 python_library
+for file in bindings/python/tests/test_*.py; do
+  module=$(basename "$file" .py)
+  part "python ${module#test_}" 0 python_tests "$module"
+done
 part "second opinion, the paper's samples" 0 second_opinion_samples
 part "second opinion, $cases generated cases" 15 second_opinion
 [ "$failed" -eq 0 ]

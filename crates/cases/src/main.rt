@@ -4,6 +4,8 @@
 //     NAME: loop PLACES BYTES                    reads a loop record; PLACES are those of the list
 //     NAME: certificate N M PLACES BYTES         reads a certificate record
 //     NAME: write KIND N M ROOM VALUE ..         writes a record
+//     NAME: to-short N M ROOM BYTES              shortens a ranking
+//     NAME: from-short N M ROOM BYTES            lengthens one
 //     NAME: judge PLACES LOOP CERTIFICATE        judges; the rank list starts as nines
 //     NAME: bound LOOP CERTIFICATE ENTRY ..      tells the bound at a state
 //
@@ -91,6 +93,46 @@ fn write_record(name: &[u8], line: &[u8], from: usize)
     cases_telling::written(name, w);
 }
 
+fn to_short(name: &[u8], line: &[u8], from: usize)
+    requires { ⌜ from ≤ length (now line) ⌝ }
+{
+    let mut ranking = record_room();
+    let mut room = record_room();
+    let n = cases_lines::count(line, from);
+    let m = cases_lines::count(line, n.at);
+    let given = cases_lines::count(line, m.at);
+    let filled = cases_lines::bytes(line, given.at, &mut ranking);
+    let a = filled.count;
+    let size = cases_lines::places(given.size, 8192);
+    let w = record_short_write::shorten(
+        cases_lines::bytes_of(&ranking, a),
+        n.size as usize,
+        m.size as usize,
+        cases_lines::room_of(&mut room, size),
+    );
+    cases_telling::written(name, w);
+}
+
+fn from_short(name: &[u8], line: &[u8], from: usize)
+    requires { ⌜ from ≤ length (now line) ⌝ }
+{
+    let mut ranking = record_room();
+    let mut room = record_room();
+    let n = cases_lines::count(line, from);
+    let m = cases_lines::count(line, n.at);
+    let given = cases_lines::count(line, m.at);
+    let filled = cases_lines::bytes(line, given.at, &mut ranking);
+    let a = filled.count;
+    let size = cases_lines::places(given.size, 8192);
+    let w = record_short_write::lengthen(
+        cases_lines::bytes_of(&ranking, a),
+        n.size as usize,
+        m.size as usize,
+        cases_lines::room_of(&mut room, size),
+    );
+    cases_telling::written(name, w);
+}
+
 fn judge(name: &[u8], line: &[u8], from: usize)
     requires { ⌜ from ≤ length (now line) ⌝ }
 {
@@ -141,6 +183,8 @@ fn run_case(name: &[u8], line: &[u8], from: usize)
         108 => read_loop(name, line, at),
         99 => read_certificate(name, line, at),
         119 => write_record(name, line, at),
+        116 => to_short(name, line, at),
+        102 => from_short(name, line, at),
         106 => judge(name, line, at),
         98 => bound(name, line, at),
         _ => cases_telling::word(b"no such call\n"),

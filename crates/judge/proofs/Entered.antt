@@ -3,6 +3,7 @@ use mathlib.Core.Path.{_≡_, refl, sym, ap, _∙_}
 use Prim.Native.Nat.{ℕ}
 use mathlib.Core.Bool.{Bool, true, false, false≢true}
 use mathlib.Core.List.{List, []}
+use Rattle.endian.specs.Numbers.{littleAt}
 use Rattle.record.specs.Layouts.{Kind, kindOf, has-rank}
 use Rattle.record.specs.Readers.{Reader, kind, kind-number, counts-read, sound, loop-reader}
 use Rattle.record.proofs.SoundRecords.{sound-says}
@@ -73,3 +74,15 @@ module _ (wants : Kind → Bool) (loopbytes : List ℕ) (n m : ℕ) (l : LoopSou
 
     pub rank-sound-as : has-rank (kindOf (v .kind)) ≡ true → RankSound wants loopbytes certificate (v .kind) (v .ms)
     rank-sound-as ranked = record { as-kind = sound-as (kindOf (v .kind)) refl; ms-is = ms-told; ranks = ranked }
+
+    -- as the code knows it, by the number in its bytes
+    module _ (number : ℕ) (numbered : littleAt 2 certificate 4 ≡ number) where
+      number-told : v .kind ≡ number
+      unfolding kind-number certificate-record
+      number-told = kind-told ∙ numbered
+
+      pub sound-by : CertificateSound wants loopbytes certificate (kindOf number)
+      sound-by = sound-as (kindOf number) (ap kindOf number-told)
+
+      pub rank-sound-by : has-rank (kindOf number) ≡ true → RankSound wants loopbytes certificate number (v .ms)
+      rank-sound-by ranked = record { as-kind = sound-by; ms-is = ms-told; ranks = ranked }

@@ -5,4 +5,6 @@ pub mod RankKinds
 pub mod SoundContents
 pub mod JudgedKinds
 pub mod Entered
+pub mod Framing
+pub mod ByKind
 pub mod OneAnswer

@@ -17,7 +17,7 @@ use Rattle.judge.specs.SoundPairs.{first-row, LoopSound, CertificateSoun
 -- ---- the loop
 
 module _ (loopbytes : List ℕ) (n m : ℕ) (l : LoopSound loopbytes n m) where
-  loop-says : Sound (loop-record loopbytes)
+  pub loop-says : Sound (loop-record loopbytes)
   loop-says = sound-says (loop-record loopbytes) (l .told)
 
   pub loop-kind : kind (loop-record loopbytes) ≡ loop

@@ -8,12 +8,12 @@ ghost use Prim.Native.Nat.{_+_, _*_, _≤_, _<_};
 ghost use Rattle.endian.specs.Numbers.{littleAt};
 ghost use Rattle.judge_exclusion.specs.ExclusionHeld.{exclusion-held};
 ghost use Rattle.record.specs.Layouts.{exclusion, kindOf};
+ghost use Rattle.record_check.specs.Checks.{Opened};
 ghost use Rattle.verdict.specs.Judging.{judges, rank-after, judge-of, certificates-judged};
 ghost use Rattle.verdict.specs.Outcomes.{grade-of};
 ghost use Rattle.verdict.specs.Stages.{shows, refusal-of};
 ghost use Rattle.judge.specs.SoundPairs.{LoopSound, CertificateSound, RankSound, rank-outcome, verdict-shown, Judged};
 use judge_ranking::Ranked;
-use record::Wanted;
 use verdict::Grade;
 use verdict::Outcome;
 use verdict::Verdict;
@@ -73,7 +73,7 @@ fn ranked_verdict(kind: usize, shown: Ranked) -> Verdict
 }
 
 // Kinds 2 and 4, of sound records.
-fn judge_ranked(
+pub fn judge_ranked(
     loopbytes: &[u8],
     n: usize,
     m: usize,
@@ -127,6 +127,56 @@ fn grade(certificate: &[u8], n: usize) -> Grade
     }
 }
 
+// ---- by the certificate's kind: its frame and kind are right, and the loop is sound
+
+// Kind 2: what else is wrong with the record, the rank list, and then the conditions.
+pub fn by_ranking(
+    loopbytes: &[u8],
+    n: usize,
+    m: usize,
+    certificate: &[u8],
+    rank: &mut [i64],
+) -> Verdict
+    requires { ⌜ LoopSound (now loopbytes) n m × Opened (now certificate) 2 n m ⌝ }
+    ensures { λ r. ⌜ Judged (now (loopbytes .entry)) (now (certificate .entry)) (now (rank .entry)) r (now (rank .exit)) ⌝ }
+{
+    let said = record_check::ranking_record(certificate, n, m);
+    if said.number != 0 {
+        return refused(2, said.number, said.place);
+    }
+    judge_ranked(loopbytes, n, m, certificate, 2, 0, rank)
+}
+
+// Kind 3, which has no rank.
+pub fn by_exclusion(loopbytes: &[u8], n: usize, m: usize, certificate: &[u8]) -> Verdict
+    requires { ⌜ LoopSound (now loopbytes) n m × Opened (now certificate) 3 n m ⌝ }
+    ensures { λ r. ⌜ ((lent : List ℤ) → Judged (now (loopbytes .entry)) (now (certificate .entry)) lent r lent) ⌝ }
+{
+    let said = record_check::exclusion_record(certificate, n, m);
+    if said.number != 0 {
+        return refused(2, said.number, said.place);
+    }
+    judge_excluded(loopbytes, n, m, certificate)
+}
+
+// Kind 4.
+pub fn by_lasso(
+    loopbytes: &[u8],
+    n: usize,
+    m: usize,
+    certificate: &[u8],
+    rank: &mut [i64],
+) -> Verdict
+    requires { ⌜ LoopSound (now loopbytes) n m × Opened (now certificate) 4 n m ⌝ }
+    ensures { λ r. ⌜ Judged (now (loopbytes .entry)) (now (certificate .entry)) (now (rank .entry)) r (now (rank .exit)) ⌝ }
+{
+    let said = record_check::lasso_record(certificate, n, m);
+    if said.number != 0 {
+        return refused(2, said.number, said.place);
+    }
+    judge_ranked(loopbytes, n, m, certificate, 4, said.ms, rank)
+}
+
 // Judges a certificate for a loop record that has been checked, so that a sheet checks its loop once.
 pub fn judge_sound(
     loopbytes: &[u8],
@@ -138,19 +188,14 @@ pub fn judge_sound(
     requires { ⌜ LoopSound (now loopbytes) n m ⌝ }
     ensures { λ r. ⌜ Judged (now (loopbytes .entry)) (now (certificate .entry)) (now (rank .entry)) r (now (rank .exit)) ⌝ }
 {
-    let wanted = Wanted {
-        ranking: true,
-        exclusion: true,
-        lasso: true,
-    };
-    let said = record_check::check_certificate(certificate, n, m, wanted);
-    if said.number != 0 {
-        return refused(2, said.number, said.place);
+    let head = record_check::frame(certificate);
+    if head.number != 0 {
+        return refused(2, head.number, head.place);
     }
-    let kind = said.kind;
-    match kind {
-        2 | 4 => judge_ranked(loopbytes, n, m, certificate, kind, said.ms, rank),
-        3 => judge_excluded(loopbytes, n, m, certificate),
+    match endian::u16_at(certificate, 4) {
+        2 => by_ranking(loopbytes, n, m, certificate, rank),
+        3 => by_exclusion(loopbytes, n, m, certificate),
+        4 => by_lasso(loopbytes, n, m, certificate, rank),
         _ => refused(2, 4, 4),
     }
 }

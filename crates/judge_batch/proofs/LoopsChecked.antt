@@ -1,15 +1,13 @@
 -- What a batch's check of its loop tells, for a loop of either kind: which judge it leads to, how long the bytes are, and that n stands at byte 6.
 use mathlib.Core.Path.{_≡_, refl, sym, ap, _∙_}
-use Prim.Native.Nat.{ℕ, _≤_, _<_}
-use mathlib.Core.Bool.{true, false, _&&_}
+use Prim.Native.Nat.{ℕ, _≤_}
+use mathlib.Core.Bool.{true, false}
 use mathlib.Core.List.{List, []}
 use native.Mathlib.Omega.{arith}
-use lib.Dec.{leb}
-use lib.ListN.{length}
-use borrow.Author.Tests.{leb-false, le-leb}
+use lib.ListN.{length, drop}
 use Rattle.endian.specs.Numbers.{littleAt}
 use Rattle.record.specs.Layouts.{is-loop}
-use Rattle.record.specs.Readers.{kind, counts-read, sound, loop-reader}
+use Rattle.record.specs.Readers.{framing, stated-length, kind, counts-read, sound, loop-reader}
 use Rattle.record_check.specs.Checks.{checked, checks}
 use Rattle.record_check.specs.declared.Checked.{Checked}
 use Rattle.record_paths.specs.PathFields.{bytes-alone, is-kind, holds-counts, is-long, fields-fit}
@@ -19,12 +17,12 @@ use Rattle.refusal.specs.Faults.{fault-of}
 use Rattle.refusal.specs.Tests.{Told, done, refused, first, number, place}
 use Rattle.refusal.specs.declared.Fault.{Fault}
 use Rattle.refusal.proofs.FaultLaws.{Named}
-use Rattle.refusal.proofs.TestLaws.{either, both-true, zero-done, first-told}
+use Rattle.refusal.proofs.TestLaws.{either, zero-done, first-told}
 use Rattle.verdict.specs.Pairs.{loop-record}
 use Rattle.verdict_paths.specs.JudgingByLoop.{of-paths}
 use Rattle.judge.specs.SoundPairs.{first-row, LoopSound}
 use Rattle.judge.proofs.SoundSizes.{loop-kind, n-few, rows-in}
-use Rattle.judge_settling.proofs.SettlingEntered.{short-refused, loop-alike}
+use Rattle.judge.proofs.Framing.{loop-alike}
 use Rattle.verdict_batch.specs.Batches.{loop-told, variables}
 
 module _ (loopbytes : List ℕ) where
@@ -34,23 +32,17 @@ module _ (loopbytes : List ℕ) where
   unfolding loop-told
   as-paths e = rw e
 
-  -- a record that is too short for a kind is refused alike as either
-  short-alike : length loopbytes < 6 → first sound-paths (bytes-alone loopbytes) ≡ first sound (loop-record loopbytes)
-  unfolding sound-paths
-  short-alike short =
-      short-refused loopbytes short
-      (λ k q told. first-told _ _ (bytes-alone loopbytes) k q told ∙ sym (loop-alike loopbytes k q told))
-
-  pub as-rows : (leb 6 (length loopbytes) && of-paths loopbytes) ≡ false → loop-told loopbytes ≡ first sound (loop-record loopbytes)
+  pub as-rows : of-paths loopbytes ≡ false → loop-told loopbytes ≡ first sound (loop-record loopbytes)
   unfolding loop-told
-  as-rows none =
+  as-rows e = rw e
+
+  -- a record whose frame is refused is refused so, whatever kind its bytes 4 and 5 tell
+  pub as-framed : (k q : ℕ) → first framing (loop-reader loopbytes []) ≡ refused k q → loop-told loopbytes ≡ refused k q
+  unfolding loop-reader bytes-alone sound-paths stated-length first
+  as-framed k q told =
       either (of-paths loopbytes)
-      (λ e. rw e (short-alike (leb-false 6 (length loopbytes) (either (leb 6 (length loopbytes)) (λ long. long ∙ rw (long, e) at none) (λ short. short)))))
-      (λ e. rw e)
-
-  as-loop : of-paths loopbytes ≡ false → loop-told loopbytes ≡ first sound (loop-record loopbytes)
-  unfolding loop-told
-  as-loop e = rw e
+      (λ e. as-paths e ∙ first-told framing (drop 4 sound-paths) (bytes-alone loopbytes) k q told)
+      (λ e. as-rows e ∙ loop-alike loopbytes k q told)
 
   -- ---- the check's answer
 
@@ -87,11 +79,11 @@ module _ (loopbytes : List ℕ) where
     loop-long =
         either (of-paths loopbytes)
         (λ e. omega (arith, paths-sound loopbytes (sym (as-paths e) ∙ told) .long))
-        (λ e. omega (arith, rows-in loopbytes _ _ (sound-rows (sym (as-loop e) ∙ told)) .inside))
+        (λ e. omega (arith, rows-in loopbytes _ _ (sound-rows (sym (as-rows e) ∙ told)) .inside))
 
     pub few-variables : variables loopbytes ≤ 16
     unfolding variables variables-in
     few-variables =
         either (of-paths loopbytes)
         (λ e. paths-sound loopbytes (sym (as-paths e) ∙ told) .few-variables)
-        (λ e. n-few loopbytes _ _ (sound-rows (sym (as-loop e) ∙ told)))
+        (λ e. n-few loopbytes _ _ (sound-rows (sym (as-rows e) ∙ told)))

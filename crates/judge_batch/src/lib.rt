@@ -17,7 +17,14 @@ ghost use Rattle.verdict_batch.specs.Batches.{loop-told, variables, stretch, wi
 fn check_loop(loopbytes: &[u8]) -> Fault
     ensures { λ r. ⌜ r ≡ fault-of (loop-told (now (loopbytes .entry))) ⌝ }
 {
-    if judge_by_kind::is_of_paths(loopbytes) {
+    let head = record_check::frame(loopbytes);
+    if head.number != 0 {
+        return Fault {
+            number: head.number,
+            place: head.place,
+        };
+    }
+    if endian::u16_at(loopbytes, 4) == 5 {
         return record_paths_check::check_paths(loopbytes);
     }
     let said = record_check::check_loop(loopbytes);
@@ -86,11 +93,11 @@ pub fn judge_part(
         (now (ranks .entry))) ⌝ }
 {
     let certificate = &bytes[from..end];
-    if judge_by_kind::is_of_paths(loopbytes) {
+    if endian::u16_at(loopbytes, 4) == 5 {
         return judge_by_kind::judge_paths_sound(loopbytes, certificate);
     }
     let n = endian::u16_at(loopbytes, 6);
     let m = endian::u16_at(loopbytes, 8);
     let at = n * i;
-    judge_by_kind::judge_sound(loopbytes, n, m, certificate, &mut ranks[at..at + n])
+    judge_by_kind::judge_certificate(loopbytes, n, m, certificate, &mut ranks[at..at + n])
 }

@@ -1,4 +1,6 @@
 pub mod StepLaws
 pub mod BoundingWays
 pub mod BoundedKinds
+pub mod RankNeeds
+pub mod ByKind
 pub mod OneAnswer

@@ -9,10 +9,10 @@ ghost use Rattle.whole.specs.Sums.{Within};
 ghost use Rattle.theory.specs.Rankings as Rankings;
 ghost use Rattle.verdict.specs.Bounding.{bounds, bound-of, certificates-bounded};
 ghost use Rattle.judge_lasso.specs.LassoHeld.{LassoIn};
+ghost use Rattle.record_check.specs.Checks.{Opened};
 ghost use Rattle.judge.specs.SoundPairs.{LoopSound, RankSound};
 ghost use Rattle.judge_bound.specs.BoundShown.{no-bound, StateFits, BoundFits, invariant-held, speaks-held, bound-shown};
 use judge_ranking::Ranked;
-use record::Wanted;
 use verdict::Bounded;
 
 // A refusal: it has no bound.
@@ -94,65 +94,68 @@ fn ranked_bound(
     }
 }
 
-// Kinds 2 and 4, of sound records and a state in range.
-fn bound_ranked(
+// Kind 2, of sound records and a state in range.
+pub fn ranking_bound(
     loopbytes: &[u8],
     n: usize,
     m: usize,
     certificate: &[u8],
-    kind: usize,
-    ms: usize,
     state: &[i64],
 ) -> Bounded
-    requires { ⌜ LoopSound (now loopbytes) n m × RankSound certificates-bounded (now loopbytes) (now certificate) kind ms × StateFits (now state) n ⌝ }
+    requires { ⌜ LoopSound (now loopbytes) n m × RankSound certificates-bounded (now loopbytes) (now certificate) 2 0 × StateFits (now state) n ⌝ }
     ensures { λ r. ⌜ r ≡ bounds (bound-of (now (loopbytes .entry)) (now (certificate .entry)) (now (state .entry))) ⌝ }
 {
     let mut entries = [0i64; 16];
-    match kind {
-        2 => {
-            let shown = judge_ranking::ranking(
-                loopbytes,
-                judge::FIRST_ROW,
-                n,
-                m,
-                certificate,
-                &mut entries,
-            );
-            ranked_bound(shown, &entries, n, m, certificate, kind, ms, state)
-        }
-        4 => {
-            let shown = judge_lasso::lasso(
-                loopbytes,
-                judge::FIRST_ROW,
-                n,
-                m,
-                certificate,
-                ms,
-                &mut entries,
-            );
-            ranked_bound(shown, &entries, n, m, certificate, kind, ms, state)
-        }
-        _ => refused(2, 4, 4),
-    }
+    let shown = judge_ranking::ranking(
+        loopbytes,
+        judge::FIRST_ROW,
+        n,
+        m,
+        certificate,
+        &mut entries,
+    );
+    ranked_bound(shown, &entries, n, m, certificate, 2, 0, state)
 }
 
-// A certificate and a state for a loop record that has been checked.
-pub fn bound_sound(
+// Kind 4, of the same.
+fn lasso_bound(
+    loopbytes: &[u8],
+    n: usize,
+    m: usize,
+    certificate: &[u8],
+    ms: usize,
+    state: &[i64],
+) -> Bounded
+    requires { ⌜ LoopSound (now loopbytes) n m × RankSound certificates-bounded (now loopbytes) (now certificate) 4 ms × StateFits (now state) n ⌝ }
+    ensures { λ r. ⌜ r ≡ bounds (bound-of (now (loopbytes .entry)) (now (certificate .entry)) (now (state .entry))) ⌝ }
+{
+    let mut entries = [0i64; 16];
+    let shown = judge_lasso::lasso(
+        loopbytes,
+        judge::FIRST_ROW,
+        n,
+        m,
+        certificate,
+        ms,
+        &mut entries,
+    );
+    ranked_bound(shown, &entries, n, m, certificate, 4, ms, state)
+}
+
+// ---- by the certificate's kind: its frame and kind are right, and the loop is sound
+
+// Kind 2: what else is wrong with the record, the state, and then the conditions.
+pub fn by_ranking(
     loopbytes: &[u8],
     n: usize,
     m: usize,
     certificate: &[u8],
     state: &[i64],
 ) -> Bounded
-    requires { ⌜ LoopSound (now loopbytes) n m ⌝ }
+    requires { ⌜ LoopSound (now loopbytes) n m × Opened (now certificate) 2 n m ⌝ }
     ensures { λ r. ⌜ r ≡ bounds (bound-of (now (loopbytes .entry)) (now (certificate .entry)) (now (state .entry))) ⌝ }
 {
-    let wanted = Wanted {
-        ranking: true,
-        exclusion: false,
-        lasso: true,
-    };
-    let said = record_check::check_certificate(certificate, n, m, wanted);
+    let said = record_check::ranking_record(certificate, n, m);
     if said.number != 0 {
         return refused(2, said.number, said.place);
     }
@@ -160,9 +163,43 @@ pub fn bound_sound(
     if fault.number != 0 {
         return refused(0, fault.number, fault.place);
     }
-    let kind = said.kind;
-    match kind {
-        2 | 4 => bound_ranked(loopbytes, n, m, certificate, kind, said.ms, state),
+    ranking_bound(loopbytes, n, m, certificate, state)
+}
+
+// Kind 4.
+pub fn by_lasso(
+    loopbytes: &[u8],
+    n: usize,
+    m: usize,
+    certificate: &[u8],
+    state: &[i64],
+) -> Bounded
+    requires { ⌜ LoopSound (now loopbytes) n m × Opened (now certificate) 4 n m ⌝ }
+    ensures { λ r. ⌜ r ≡ bounds (bound-of (now (loopbytes .entry)) (now (certificate .entry)) (now (state .entry))) ⌝ }
+{
+    let said = record_check::lasso_record(certificate, n, m);
+    if said.number != 0 {
+        return refused(2, said.number, said.place);
+    }
+    let fault = judge_state::state_fault(state, n);
+    if fault.number != 0 {
+        return refused(0, fault.number, fault.place);
+    }
+    lasso_bound(loopbytes, n, m, certificate, said.ms, state)
+}
+
+// A certificate and a state for a loop record that has been checked.
+fn bound_sound(loopbytes: &[u8], n: usize, m: usize, certificate: &[u8], state: &[i64]) -> Bounded
+    requires { ⌜ LoopSound (now loopbytes) n m ⌝ }
+    ensures { λ r. ⌜ r ≡ bounds (bound-of (now (loopbytes .entry)) (now (certificate .entry)) (now (state .entry))) ⌝ }
+{
+    let head = record_check::frame(certificate);
+    if head.number != 0 {
+        return refused(2, head.number, head.place);
+    }
+    match endian::u16_at(certificate, 4) {
+        2 => by_ranking(loopbytes, n, m, certificate, state),
+        4 => by_lasso(loopbytes, n, m, certificate, state),
         _ => refused(2, 4, 4),
     }
 }

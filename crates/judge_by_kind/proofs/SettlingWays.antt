@@ -1,6 +1,6 @@
 -- The ways through judging a certificate of kind 8, one for each return: what is told of the records, and the verdict and the rank list that
 -- the definition then has.
-use mathlib.Core.Path.{_≡_, refl, sym, _∙_}
+use mathlib.Core.Path.{_≡_, _∙_}
 use Prim.Native.Nat.{ℕ, _≤_, _<_}
 use mathlib.Core.List.{List, _++_}
 use lib.IntN.{ℤ, pos}
@@ -10,7 +10,7 @@ use Rattle.refusal.specs.Tests.{done, refused, first}
 use Rattle.refusal.proofs.TestLaws.{failed, passes-done}
 use Rattle.theory.specs.Rankings.{start, fall, rank}
 use Rattle.theory_settling.specs.Settlings.{longer}
-use Rattle.verdict.specs.Judging.{ranks, judges, rank-after, judge-of, certificates-judged}
+use Rattle.verdict.specs.Judging.{ranks}
 use Rattle.verdict.specs.Stages.{agreed, refusal, said, refusal-of, verdict-of}
 use Rattle.verdict.proofs.StageLaws.{by-told, stage-done, stage-refused, agrees-said}
 use Rattle.verdict_settling.specs.AnswersByKind.{pair-of, judging-of}
@@ -24,7 +24,7 @@ use Rattle.judge.proofs.JudgingWays as Rows
 use Rattle.judge_settling.specs.SettlingBy.{SettlingBy}
 use Rattle.judge_settling.specs.SettlingHeld.{settling-held}
 use Rattle.judge_settling.proofs.SettlingContentsHeld.{variables-are, settling-told}
-use Rattle.judge_settling.proofs.SettlingEntered.{never-0, short-refused, settling-alike, other-alike}
+use Rattle.judge_settling.proofs.SettlingEntered.{never-0}
 use Rattle.judge_by_kind.specs.SettlingShown.{settling-shown, SettlingJudged}
 
 module _ (loopbytes certificate : List ℕ) (lent : List ℤ) where
@@ -89,21 +89,3 @@ module _ (loopbytes certificate : List ℕ) (lent : List ℤ) where
 
       pub by-conditions : SettlingJudged loopbytes certificate lent (settling-shown r) after
       by-conditions = by-told (conditions-told p) all-hold one-fails
-
-  -- ---- a certificate that is too short for a kind is refused alike, as a settling or otherwise
-
-  pub short-either-way : length certificate < 6 → SettlingJudged loopbytes certificate lent (judges (judge-of loopbytes certificate lent)) (rank-after (judge-of loopbytes certificate lent) lent)
-  unfolding judge-of
-  short-either-way short =
-      let row = judge-of loopbytes certificate lent in
-      by-told (loop-told p)
-      (λ loop-sound.
-      short-refused certificate short
-      (λ k q told.
-      let as-rows = Rows.refused-so row lent 2 k q (Rows.at-certificate row loop-sound k q (other-alike certificate k q told certificates-judged loopbytes)) in
-      let as-settling = at-certificate loop-sound k q (settling-alike certificate k q told p refl) in
-      (sym (as-rows .0) ∙ as-settling .0, sym (as-rows .1) ∙ as-settling .1)))
-      (λ k q told.
-      let as-rows = Rows.refused-so row lent 1 k q (Rows.at-loop row k q told) in
-      let as-settling = at-loop k q told in
-      (sym (as-rows .0) ∙ as-settling .0, sym (as-rows .1) ∙ as-settling .1))

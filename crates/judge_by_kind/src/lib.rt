@@ -1,13 +1,11 @@
 // The judge: whether a certificate's bytes prove what they claim of a loop's bytes, by the records' kinds. Every input has an answer; a
 // refusal changes nothing that was lent.
 ghost use mathlib.Core.Path.{_≡_};
-ghost use mathlib.Core.Bool.{_&&_};
-ghost use lib.Dec.{leb};
-ghost use lib.ListN.{length};
+ghost use Rattle.endian.specs.Numbers.{littleAt};
+ghost use Rattle.record_check.specs.Checks.{Framed};
 ghost use Rattle.record_paths.specs.PathFields.{bytes-alone};
 ghost use Rattle.record_paths.specs.PathLoops.{sound-paths};
 ghost use Rattle.refusal.specs.Tests.{done, first};
-ghost use Rattle.verdict_paths.specs.JudgingByLoop.{of-paths};
 ghost use Rattle.verdict_paths.specs.PathJudging.{path-judges};
 ghost use Rattle.verdict_short.specs.Answers.{answered, rank-answered};
 ghost use Rattle.judge.specs.SoundPairs.{LoopSound};
@@ -41,16 +39,6 @@ fn judge_paths(loopbytes: &[u8], certificate: &[u8]) -> Verdict
         return judge::refused(1, fault.number, fault.place);
     }
     judge_paths_sound(loopbytes, certificate)
-}
-
-// Whether the loop record has a kind, and it is 5.
-pub fn is_of_paths(loopbytes: &[u8]) -> bool
-    ensures { λ r. ⌜ r ≡ (leb 6 (length (now (loopbytes .entry))) && of-paths (now (loopbytes .entry))) ⌝ }
-{
-    if loopbytes.len() < 6 {
-        return false;
-    }
-    endian::u16_at(loopbytes, 4) == 5
 }
 
 // The verdict of a settling, from what its conditions tell.
@@ -87,8 +75,8 @@ fn settling_sound(
     settling_verdict(judge_settling::settling(loopbytes, judge::FIRST_ROW, n, m, certificate, rank))
 }
 
-// Judges a certificate for a loop record of kind 1 that has been checked.
-pub fn judge_sound(
+// Judges a certificate for a loop record that has been checked: its frame is the same for every kind, and its kind decides the rest.
+pub fn judge_certificate(
     loopbytes: &[u8],
     n: usize,
     m: usize,
@@ -99,10 +87,31 @@ pub fn judge_sound(
     ensures { λ r. ⌜ (r ≡ answered (now (loopbytes .entry)) (now (certificate .entry)) (now (rank .entry)))
         × (now (rank .exit) ≡ rank-answered (now (loopbytes .entry)) (now (certificate .entry)) (now (rank .entry))) ⌝ }
 {
-    if judge_settling::is_settling(certificate) {
-        return settling_sound(loopbytes, n, m, certificate, rank);
+    let head = record_check::frame(certificate);
+    if head.number != 0 {
+        return judge::refused(2, head.number, head.place);
     }
-    judge_short::judge_sound(loopbytes, n, m, certificate, rank)
+    match endian::u16_at(certificate, 4) {
+        2 => judge::by_ranking(loopbytes, n, m, certificate, rank),
+        3 => judge::by_exclusion(loopbytes, n, m, certificate),
+        4 => judge::by_lasso(loopbytes, n, m, certificate, rank),
+        7 => judge_short::by_short(loopbytes, n, m, certificate, rank),
+        8 => settling_sound(loopbytes, n, m, certificate, rank),
+        _ => judge::refused(2, 4, 4),
+    }
+}
+
+// A loop record of kind 1 whose frame is right.
+fn judge_rows(loopbytes: &[u8], certificate: &[u8], rank: &mut [i64]) -> Verdict
+    requires { ⌜ Framed (now loopbytes) × (littleAt 2 (now loopbytes) 4 ≡ 1) ⌝ }
+    ensures { λ r. ⌜ (r ≡ answered (now (loopbytes .entry)) (now (certificate .entry)) (now (rank .entry)))
+        × (now (rank .exit) ≡ rank-answered (now (loopbytes .entry)) (now (certificate .entry)) (now (rank .entry))) ⌝ }
+{
+    let said = record_check::loop_record(loopbytes);
+    if said.number != 0 {
+        return judge::refused(1, said.number, said.place);
+    }
+    judge_certificate(loopbytes, said.n, said.m, certificate, rank)
 }
 
 // Judges a certificate's bytes for a loop's bytes.
@@ -110,12 +119,13 @@ pub fn judge(loopbytes: &[u8], certificate: &[u8], rank: &mut [i64]) -> Verdict
     ensures { λ r. ⌜ r ≡ answered (now (loopbytes .entry)) (now (certificate .entry)) (now (rank .entry)) ⌝ }
     ensures { λ _. ⌜ now (rank .exit) ≡ rank-answered (now (loopbytes .entry)) (now (certificate .entry)) (now (rank .entry)) ⌝ }
 {
-    if is_of_paths(loopbytes) {
-        return judge_paths(loopbytes, certificate);
+    let head = record_check::frame(loopbytes);
+    if head.number != 0 {
+        return judge::refused(1, head.number, head.place);
     }
-    let said = record_check::check_loop(loopbytes);
-    if said.number != 0 {
-        return judge::refused(1, said.number, said.place);
+    match endian::u16_at(loopbytes, 4) {
+        1 => judge_rows(loopbytes, certificate, rank),
+        5 => judge_paths(loopbytes, certificate),
+        _ => judge::refused(1, 4, 4),
     }
-    judge_sound(loopbytes, said.n, said.m, certificate, rank)
 }

@@ -112,7 +112,8 @@ fn keeps(rows: &[u8], start: usize, n: usize, m: usize, certificate: &[u8], ms: 
 }
 
 // Kind 4: start, kept, and the ranking over the loop with the added row. The rank is put into the
-// list where all hold.
+// list where all hold. Slices are handed on as `[..]`, which costs less than as they came
+// (docs/PERFORMANCE.md, "Small records").
 pub fn lasso(
     rows: &[u8],
     start: usize,
@@ -137,5 +138,15 @@ pub fn lasso(
     let s = 8 + ms * (4 * n + 4);
     let y = s + 2 * n + 10 + 2 * ms + 2 * m;
     let s0 = endian::i32_at(certificate, s + 2 * n);
-    judge_longer::longer_ranking(rows, start, n, m, certificate, y, s, s0, rank)
+    judge_longer::longer_ranking(
+        &rows[..],
+        start,
+        n,
+        m,
+        &certificate[..],
+        y,
+        s,
+        s0,
+        rank,
+    )
 }

@@ -1,30 +1,17 @@
 // What a settling's conditions tell (02, Q-8: the rise, and the ranking over the loop with the added row -g·x <= -t), from the bytes of
 // sound records, and what it shows where they hold.
 ghost use mathlib.Core.Path.{_≡_};
-ghost use mathlib.Core.Bool.{_&&_};
 ghost use Prim.Native.Nat.{_≤_};
-ghost use lib.Dec.{leb};
 ghost use lib.ListN.{length};
 ghost use Rattle.refusal.specs.Faults.{fault-of};
 ghost use Rattle.theory.specs.Conditions.{weighedTold};
 ghost use Rattle.theory_settling.specs.Settlings.{rising};
-ghost use Rattle.verdict_settling.specs.AnswersByKind.{of-settling};
 ghost use Rattle.judge_sums.specs.Places.{RowsIn};
 ghost use Rattle.judge_conditions.specs.LoopHeld.{loop-held};
 ghost use Rattle.judge_settling.specs.SettlingBy.{SettlingBy};
 ghost use Rattle.judge_settling.specs.SettlingHeld.{SettlingIn, settling-held};
 use judge_ranking::Ranked;
 use refusal::Fault;
-
-// Whether a certificate's record has a kind, and it is 8.
-pub fn is_settling(certificate: &[u8]) -> bool
-    ensures { λ r. ⌜ r ≡ (leb 6 (length (now (certificate .entry))) && of-settling (now (certificate .entry))) ⌝ }
-{
-    if certificate.len() < 6 {
-        return false;
-    }
-    endian::u16_at(certificate, 4) == 8
-}
 
 // The rise: EA = k g, EA' = -k g, Eb <= -k.
 fn rises(rows: &[u8], start: usize, n: usize, m: usize, certificate: &[u8]) -> Fault
@@ -71,11 +58,11 @@ pub fn settling(
     let t = endian::i32_at(certificate, place);
     let y = place + 6 + 2 * m;
     judge_longer::longer_ranking(
-        rows,
+        &rows[..],
         start,
         n,
         m,
-        certificate,
+        &certificate[..],
         y,
         6,
         judge_conditions::minus(t),

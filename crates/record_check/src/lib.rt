@@ -71,9 +71,9 @@ fn ends(at: usize, end: usize, kind: usize, n: usize, m: usize, ms: usize) -> Ch
     }
 }
 
-// ---- the kinds: layout, length formula and value range of each
+// ---- the kinds: layout, length formula and value range of each. A caller that knows the frame and the kind asks for the rest alone
 
-fn loop_record(bytes: &[u8]) -> Checked
+pub fn loop_record(bytes: &[u8]) -> Checked
     requires { ⌜ Framed (now bytes) ⌝ ∗ ⌜ littleAt 2 (now bytes) 4 ≡ 1 ⌝ }
     ensures { λ r. ⌜ r ≡ checks (loop-reader (now (bytes .entry)) []) ⌝ }
 {
@@ -95,7 +95,7 @@ fn loop_record(bytes: &[u8]) -> Checked
     ends(record_faults::rows_fault(bytes, 10, n, m), end, 1, n, m, 0)
 }
 
-fn ranking_record(bytes: &[u8], n: usize, m: usize) -> Checked
+pub fn ranking_record(bytes: &[u8], n: usize, m: usize) -> Checked
     requires { ⌜ Opened (now bytes) 2 n m ⌝ }
     ensures { λ r. ⌜ Answers ranking (now (bytes .entry)) n m r ⌝ }
 {
@@ -113,7 +113,7 @@ fn ranking_record(bytes: &[u8], n: usize, m: usize) -> Checked
     )
 }
 
-fn exclusion_record(bytes: &[u8], n: usize, m: usize) -> Checked
+pub fn exclusion_record(bytes: &[u8], n: usize, m: usize) -> Checked
     requires { ⌜ Opened (now bytes) 3 n m ⌝ }
     ensures { λ r. ⌜ Answers exclusion (now (bytes .entry)) n m r ⌝ }
 {
@@ -124,7 +124,7 @@ fn exclusion_record(bytes: &[u8], n: usize, m: usize) -> Checked
     ends(record_faults::exclusion_fault(bytes, 6, n), end, 3, n, m, 0)
 }
 
-fn lasso_record(bytes: &[u8], n: usize, m: usize) -> Checked
+pub fn lasso_record(bytes: &[u8], n: usize, m: usize) -> Checked
     requires { ⌜ Opened (now bytes) 4 n m ⌝ }
     ensures { λ r. ⌜ Answers lasso (now (bytes .entry)) n m r ⌝ }
 {

@@ -246,12 +246,14 @@ pub fn rows_fault(bytes: &[u8], place: usize, n: usize, count: usize) -> usize
     let mut at = place;
     let mut left = count;
     while 0 < left {
-        let here = linear_fault(bytes, at, 2 * n);
-        let next = at + (4 * n + 4);
-        if here < next {
-            return here;
+        if !entries_fit(bytes, at, 2 * n) {
+            return first_out(bytes, at, 2 * n, RunOf::Entries);
         }
-        at = next;
+        let right = at + 4 * n;
+        if !right_side_fits(bytes, right) {
+            return right;
+        }
+        at = right + 4;
         left -= 1;
     }
     at

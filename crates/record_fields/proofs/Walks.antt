@@ -2,14 +2,14 @@
 -- run. `at` is where the walk stands and `left` how many parts are to come.
 use mathlib.Core.Path.{_≡_, refl, sym, ap, _∙_}
 use Prim.Native.Nat.{ℕ, zero, suc, _+_, _*_, _-_, _≤_, _<_}
-use mathlib.Core.Bool.{Bool, true, false, _&&_}
+use mathlib.Core.Bool.{Bool, true, false, false≢true, _&&_}
 use mathlib.Core.List.{List, [], _∷_, _++_}
 use native.Mathlib.Nat.{mul-suc}
 use native.Mathlib.Numerals.{add-one}
 use native.Mathlib.Omega.{arith}
 use lib.ListN.{replicate}
 use Rattle.record.specs.Fields.{width, Field, widths}
-use Rattle.refusal.proofs.TestLaws.{both-true}
+use Rattle.refusal.proofs.TestLaws.{either, both-true}
 use Rattle.record_fields.specs.Runs.{fits, all-fit, fault}
 use Rattle.record_fields.proofs.FirstFaults.{fault-none, one-fits, one-out, stops, goes-on}
 
@@ -89,3 +89,19 @@ module _ (f : Field) (wide : ℕ) (bytes : List ℕ) (place count : ℕ) (sized 
 
   pub all-in-range : all-fit f bytes place count ≡ true → place + wide * count ≡ fault (replicate count f) bytes place
   all-in-range h = run-end f wide bytes place count sized (place + wide * count) (count - count) (fit-so-far count (omega arith) h) (omega arith)
+
+  -- where one does not, the first that does not stands before the end
+  out-before : (k : ℕ) → k ≤ count → 0 < wide → all-fit f bytes place k ≡ false → fault (replicate count f) bytes place < place + wide * k
+  unfolding all-fit
+  out-before zero few wider h = absurd (false≢true (sym h))
+  out-before (suc k) few wider h =
+      let on : wide * suc k ≡ wide * k + wide = omega (arith, mul-suc wide k) in
+      either (all-fit f bytes place k)
+      (λ fit.
+      let here : fits f bytes (place + wide * k) ≡ false = rw (fit, sized) at h in
+      let at = run-here f wide bytes place count sized (place + wide * k) (count - k) (fit-so-far k (omega arith) fit) (omega arith) here wider in
+      omega (arith, at, on))
+      (λ out. omega (arith, out-before k (omega arith) wider out, on))
+
+  pub not-in-range : 0 < wide → all-fit f bytes place count ≡ false → fault (replicate count f) bytes place < place + wide * count
+  not-in-range wider h = out-before count (omega arith) wider h

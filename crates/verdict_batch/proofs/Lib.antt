@@ -1,3 +1,5 @@
 pub mod RankLengths
 pub mod InTurn
 pub mod Filling
+pub mod BatchSamples
+pub mod BatchPromises

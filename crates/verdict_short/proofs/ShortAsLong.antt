@@ -1,20 +1,17 @@
 -- A short ranking is judged as the kind 2 record that it stands for (`short-as-long`): number, place, record, outcome, list and bound agree for every sound loop,
 -- every list and state, and every record of kind 7 that is sound for the loop's n and m. A refused loop gives both the same refusal, and a malformed short record
 -- is refused as its order says. Every other certificate is judged as before.
-use mathlib.Core.Path.{_≡_, refl, sym, ap, _∙_}
-use Prim.Native.Nat.{ℕ, _+_, _≤_, _<_}
+use mathlib.Core.Path.{_≡_, refl, sym, _∙_}
+use Prim.Native.Nat.{ℕ}
 use mathlib.Core.Bool.{true, false}
 use mathlib.Core.List.{List}
-use native.Mathlib.Omega.{arith}
 use lib.IntN.{ℤ}
-use lib.ListN.{length, drop}
-use borrow.Author.Tests.{leb-true, eq-eqb}
-use Rattle.endian.specs.Numbers.{littleAt}
+use lib.ListN.{drop}
 use Rattle.record.specs.Readers.{framing, stated-length, sound}
 use Rattle.record_paths.specs.PathFields.{bytes-alone}
 use Rattle.record_short.specs.ShortRecords.{sound-short}
 use Rattle.refusal.specs.Tests.{done, refused, first}
-use Rattle.refusal.proofs.TestLaws.{either, first-told, done-passes}
+use Rattle.refusal.proofs.TestLaws.{either, first-told}
 use Rattle.verdict.specs.Bounding.{bounding, bounded, bounds, bound-of}
 use Rattle.verdict.specs.Judging.{judging, judges, ranks, rank-after, judge-of}
 use Rattle.verdict.specs.Pairs.{loop-record, certificate-record}

@@ -1,0 +1,58 @@
+-- The table of exchanges for kind 7: the answer of judging for every exchange of two fields of one form, and of two triples. Every one
+-- is refused: a count that is another by L, a row past its neighbour by 15, and weight on another row or under the other multiplier by a
+-- condition. `tests/exchanges.py` works the lines out from 01 and 02 alone and says whether one is left out.
+use mathlib.Core.List.{List, [], _∷_}
+use Rattle.verdict_exchanges.specs.Exchanges.{Line, _bytes-at_and_refused_at_of_}
+
+-- the short ranking: c, then row, Y and Z of each triple; the triples
+unfoldable pub short-exchanges : List Line
+short-exchanges =
+    (2 bytes-at 6 and 8 refused 3 at 0 of 2)
+    ∷ (2 bytes-at 6 and 10 refused 3 at 0 of 2)
+    ∷ (2 bytes-at 6 and 12 refused 3 at 0 of 2)
+    ∷ (2 bytes-at 6 and 14 refused 3 at 0 of 2)
+    ∷ (2 bytes-at 6 and 16 refused 3 at 0 of 2)
+    ∷ (2 bytes-at 6 and 18 refused 3 at 0 of 2)
+    ∷ (2 bytes-at 6 and 20 refused 3 at 0 of 2)
+    ∷ (2 bytes-at 6 and 22 refused 3 at 0 of 2)
+    ∷ (2 bytes-at 6 and 24 refused 3 at 0 of 2)
+    ∷ (2 bytes-at 8 and 10 refused 21 at 0 of 2)
+    ∷ (2 bytes-at 8 and 12 refused 15 at 14 of 2)
+    ∷ (2 bytes-at 8 and 14 refused 15 at 14 of 2)
+    ∷ (2 bytes-at 8 and 16 refused 15 at 14 of 2)
+    ∷ (2 bytes-at 8 and 18 refused 15 at 14 of 2)
+    ∷ (2 bytes-at 8 and 20 refused 15 at 14 of 2)
+    ∷ (2 bytes-at 8 and 22 refused 15 at 8 of 2)
+    ∷ (2 bytes-at 8 and 24 refused 15 at 8 of 2)
+    ∷ (2 bytes-at 10 and 12 refused 21 at 0 of 2)
+    ∷ (2 bytes-at 10 and 14 refused 15 at 14 of 2)
+    ∷ (2 bytes-at 10 and 16 refused 21 at 0 of 2)
+    ∷ (2 bytes-at 10 and 18 refused 21 at 0 of 2)
+    ∷ (2 bytes-at 10 and 20 refused 15 at 20 of 2)
+    ∷ (2 bytes-at 10 and 22 refused 21 at 0 of 2)
+    ∷ (2 bytes-at 10 and 24 refused 21 at 0 of 2)
+    ∷ (2 bytes-at 12 and 14 refused 15 at 20 of 2)
+    ∷ (2 bytes-at 12 and 16 refused 21 at 0 of 2)
+    ∷ (2 bytes-at 12 and 18 refused 22 at 0 of 2)
+    ∷ (2 bytes-at 12 and 20 refused 21 at 0 of 2)
+    ∷ (2 bytes-at 12 and 22 refused 21 at 0 of 2)
+    ∷ (2 bytes-at 12 and 24 refused 22 at 0 of 2)
+    ∷ (2 bytes-at 14 and 16 refused 21 at 0 of 2)
+    ∷ (2 bytes-at 14 and 18 refused 15 at 20 of 2)
+    ∷ (2 bytes-at 14 and 20 refused 15 at 20 of 2)
+    ∷ (2 bytes-at 14 and 22 refused 15 at 14 of 2)
+    ∷ (2 bytes-at 14 and 24 refused 15 at 14 of 2)
+    ∷ (2 bytes-at 16 and 18 refused 21 at 0 of 2)
+    ∷ (2 bytes-at 16 and 20 refused 21 at 0 of 2)
+    ∷ (2 bytes-at 16 and 22 refused 21 at 0 of 2)
+    ∷ (2 bytes-at 16 and 24 refused 21 at 0 of 2)
+    ∷ (2 bytes-at 18 and 20 refused 21 at 0 of 2)
+    ∷ (2 bytes-at 18 and 22 refused 21 at 0 of 2)
+    ∷ (2 bytes-at 18 and 24 refused 22 at 0 of 2)
+    ∷ (2 bytes-at 20 and 22 refused 15 at 20 of 2)
+    ∷ (2 bytes-at 20 and 24 refused 15 at 20 of 2)
+    ∷ (2 bytes-at 22 and 24 refused 21 at 0 of 2)
+    ∷ (6 bytes-at 8 and 14 refused 15 at 14 of 2)
+    ∷ (6 bytes-at 8 and 20 refused 15 at 14 of 2)
+    ∷ (6 bytes-at 14 and 20 refused 15 at 20 of 2)
+    ∷ []
