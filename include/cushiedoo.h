@@ -8,17 +8,17 @@
  * Pointers. A list is a pointer and its number of entries (not bytes). A pointer is never null, not even at length 0:
  * pass the address of any object of that type there (an empty std::vector's data() may be null). Compilers that know
  * the attribute warn where they see a null pointer. A list that a call writes to must not overlap any other list of the
- * same call. Bytes may stand at any address; lists of int64_t are aligned as that type is.
+ * same call. Bytes may stand at any address; lists of int64_t and rows of verdicts are aligned as their type is.
  *
  * Lent lists. A call that is done fills the first places of the list or room it was lent, and the rest stays. A refused
  * call changes nothing. No call keeps a pointer or touches anything but its lists, so calls may run at once.
  *
  * Ranges. Variables n: 1 to 16. Loop rows m (of each path) and stem rows ms: 0 to 64 each. Paths of a loop: 1 to 8, and
- * components of an argument for them too. Triples of a short ranking: 0 to 64. Entries of A, A', B, B', s and g: 30,000
- * either way. Right sides b, d and s0, the start of a component and the threshold t: 2,000,000,000 either way. All
- * multipliers: 0 to 60,000. The scales k and k2, and q: 1 to 60,000. U, V, W and the r of a component: 60,000 either
- * way; its fall: 1 to 1,000,000. Entries of a state: 1,000,000 either way. CUSHIEDOO_MOST_.. below are these numbers. No
- * start or fall is beyond 7,800,000,000,000,000 either way.
+ * components of an argument for them too. Triples of a short ranking: 0 to 64. Records of a batch: 0 to 32. Entries of
+ * A, A', B, B', s and g: 30,000 either way. Right sides b, d and s0, the start of a component and the threshold t:
+ * 2,000,000,000 either way. All multipliers: 0 to 60,000. The scales k and k2, and q: 1 to 60,000. U, V, W and the r of
+ * a component: 60,000 either way; its fall: 1 to 1,000,000. Entries of a state: 1,000,000 either way. CUSHIEDOO_MOST_..
+ * below are these numbers. No start or fall is beyond 7,800,000,000,000,000 either way.
  *
  * Records. A record is L (4 bytes, the number of bytes after it), its kind (2 bytes) and its body; numbers have their
  * lowest byte first. What L must be, "the stated L", goes by the kind and the counts:
@@ -48,12 +48,14 @@
  *   CUSHIEDOO_VALUE      6  value out of range, the first in layout order          its first byte
  *   CUSHIEDOO_ROOM       7  room too small                                         what is needed: values where a
  *                                                                                  record is read, bytes where one or
- *                                                                                  a text is written, n in judging
+ *                                                                                  a text is written, n in judging; in
+ *                                                                                  a batch verdicts, then rank numbers
  *   CUSHIEDOO_FAILS      8  no longer given: 21 to 63 say which condition fails
  *   CUSHIEDOO_STATE      9  state entry out of range, the first                    its index, from 0
  *   CUSHIEDOO_ENTRIES   10  state doesn't have n entries                           number of entries
  *   CUSHIEDOO_OUTSIDE   11  lasso state outside the invariant s.x + s0 >= 0        0
  *   CUSHIEDOO_LIST      12  value list of the wrong length                         length needed (1 if ms is absent)
+ *   CUSHIEDOO_RECORDS   13  more than 32 records in a batch                        number of all its records
  *   CUSHIEDOO_COMPONENT 14  component number that doesn't exist, the first         its first byte
  *   CUSHIEDOO_ROW       15  row of a short ranking not below m, or not above the   the triple's first byte
  *                           row before it
@@ -109,6 +111,7 @@
 #define CUSHIEDOO_MOST_PATHS 8
 #define CUSHIEDOO_MOST_COMPONENTS 8
 #define CUSHIEDOO_MOST_TRIPLES 64
+#define CUSHIEDOO_MOST_RECORDS 32 /* of a batch */
 #define CUSHIEDOO_MOST_ENTRY 30000
 #define CUSHIEDOO_MOST_RIGHT_SIDE 2000000000
 #define CUSHIEDOO_MOST_MULTIPLIER 60000
@@ -160,6 +163,7 @@ enum {
     CUSHIEDOO_ENTRIES = 10,
     CUSHIEDOO_OUTSIDE = 11,
     CUSHIEDOO_LIST = 12,
+    CUSHIEDOO_RECORDS = 13,
     CUSHIEDOO_COMPONENT = 14,
     CUSHIEDOO_ROW = 15,
     CUSHIEDOO_ZEROS = 16
@@ -167,7 +171,7 @@ enum {
 
 /* Which of its two records a verdict speaks of. These are no kinds: those are CUSHIEDOO_KIND_.. */
 enum {
-    CUSHIEDOO_NEITHER = 0,    /* done, 7, 9 and 10 */
+    CUSHIEDOO_NEITHER = 0,    /* done, 7, 9, 10 and 13 */
     CUSHIEDOO_LOOP = 1,       /* 1 to 6 in the loop record */
     CUSHIEDOO_CERTIFICATE = 2 /* 1 to 6 and 14 to 16 in the certificate; 11; a condition's number */
 };
@@ -236,6 +240,14 @@ typedef struct {
     uint64_t bound;
 } cushiedoo_bounded;
 
+/* The answer of a batch. What is wrong with one of its records is told by that record's verdict, not here. */
+typedef struct {
+    uint64_t number; /* refusal number */
+    uint64_t place;
+    uint64_t record; /* CUSHIEDOO_LOOP for a refusal of the loop record, CUSHIEDOO_NEITHER for done, 7 and 13 */
+    uint64_t count;  /* records judged: all of them, or 0 on a refusal */
+} cushiedoo_batch;
+
 /*
  * Reads a loop record (kind 1). The values are its rows, one after another, each of n entries of A, n of A' and b:
  * m(2n + 1) of them. Refusals: 1 to 7, in the order 1, 3 (L below 2), 1, 2, 4, 3 (no room for the counts), 5 (n, then
@@ -286,11 +298,11 @@ cushiedoo_writing cushiedoo_sheet(const uint8_t *input, size_t input_len, uint8_
 
 /*
  * Judges a certificate for a loop. On acceptance of a ranking, a lasso or a settling the first n numbers of the rank
- * list are r; an exclusion needs and touches none. Refusals: those of the loop record, those of the certificate, 7 (kinds
- * 2, 4, 7 and 8 only), those of the conditions, in this order. A settling (kind 8) is taken by this call and by
- * cushiedoo_bound alone. A short ranking (kind 7) is taken wherever a ranking is judged, on a sheet too, but not by the
- * reader and the writer. Its record is tested in the order of cushiedoo_lengthen; if it is sound, the verdict is that of
- * the ranking that it stands for.
+ * list are r; an exclusion needs and touches none. Refusals: those of the loop record, those of the certificate, 7
+ * (kinds 2, 4, 7 and 8 only), those of the conditions, in this order. A settling (kind 8) is taken by this call, by
+ * cushiedoo_judge_all and by cushiedoo_bound alone. A short ranking (kind 7) is taken wherever a ranking is judged, on
+ * a sheet too, but not by the reader and the writer. Its record is tested in the order of cushiedoo_lengthen; if it is
+ * sound, the verdict is that of the ranking that it stands for.
  *
  * A loop of several paths (kind 5) and a lexicographic argument (kind 6) are judged only together: with another record
  * either gives 4 of the certificate. They need and touch no rank list. Their counts stand in two places, and 3 is told
@@ -299,6 +311,31 @@ cushiedoo_writing cushiedoo_sheet(const uint8_t *input, size_t input_len, uint8_
  */
 cushiedoo_verdict cushiedoo_judge(const uint8_t *loop, size_t loop_len, const uint8_t *certificate,
                                   size_t certificate_len, int64_t *rank, size_t rank_len) CUSHIEDOO_NONNULL;
+
+/*
+ * Judges a job's certificates for one loop at once: up to 32 records laid end to end, of any kinds that cushiedoo_judge
+ * takes. The loop record is checked once, not once a record. No bytes are no records: the call is done and its count 0.
+ *
+ * Parting. The records are parted as on a sheet: each takes 4 + L bytes, and the next starts right after them. Where
+ * fewer than 4 bytes are left, or L is below 2, or L asks for more bytes than are left, the record takes all that is left
+ * and is the last. So a record with a wrong L takes bytes of those after it, or leaves them some of its own.
+ *
+ * Verdicts. verdicts is an array of cushiedoo_verdict, verdicts_len its number of verdicts; each has 56 bytes, which the
+ * archive sees as seven numbers of 64 bits. Verdict i is the one that cushiedoo_judge gives for record i, its places
+ * from that record's own first byte. A record that is refused does not stop the others.
+ *
+ * Ranks. Record i has the n numbers from ranks + i * n as its rank list, n being the loop's variables: as many for every
+ * kind of record, those that fill none too. A ranking, a lasso or a settling that is accepted puts its r there. An
+ * exclusion, a lexicographic argument and a refused record leave theirs as they were.
+ *
+ * Verdicts past the count and rank numbers past n times the count stay. Refusals, in this order, all before any record
+ * is judged: those of the loop record (of record CUSHIEDOO_LOOP); 13 with the count of all records, if that is over 32;
+ * 7 with the count, if there are fewer verdicts; 7 with n times the count, if there are fewer rank numbers. A refused
+ * call changes nothing lent, not one verdict.
+ */
+cushiedoo_batch cushiedoo_judge_all(const uint8_t *loop, size_t loop_len, const uint8_t *records, size_t records_len,
+                                    cushiedoo_verdict *verdicts, size_t verdicts_len, int64_t *ranks, size_t ranks_len)
+    CUSHIEDOO_NONNULL;
 
 /*
  * Judges a ranking, long or short, or a lasso and tells how many steps a run from the state can take at most. For a

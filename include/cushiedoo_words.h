@@ -34,7 +34,7 @@ static inline const char *cushiedoo_words(uint64_t number)
     case 10: return "state doesn't have n entries";
     case 11: return "lasso state outside the invariant";
     case 12: return "value list of the wrong length";
-    case 13: return "more than 32 records"; /* kept for a later call; none gives it today */
+    case 13: return "more than 32 records";
     case 14: return "component number that doesn't exist, the first";
     case 15: return "row of a short ranking not below m, or not above the row before it";
     case 16: return "Y and Z of a short ranking's row are both zero";

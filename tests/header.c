@@ -1,6 +1,7 @@
 /*
  * Holds what the header states to what the archive answers: kinds, the ends of ranges, the stated L, the room of a sheet,
- * and that each refusal number has words. It is compiled as C and as C++, and prints nothing unless something is wrong.
+ * what a row of verdicts is, and that each refusal number has words. It is compiled as C and as C++, and prints nothing
+ * unless something is wrong.
  * VERSION is the wrapper's version as one number. With WITH_NULL there is a call that a compiler must warn of.
  */
 #include <stdio.h>
@@ -8,6 +9,21 @@
 
 #include "cushiedoo.h"
 #include "cushiedoo_words.h"
+
+/* Compiles where the condition holds only; C99 has no _Static_assert. */
+#define HOLDS(name, condition) typedef char name[(condition) ? 1 : -1]
+#define STANDS_AT(field, place) HOLDS(field##_stands_there, offsetof(cushiedoo_verdict, field) == 8 * (place))
+
+/* A verdict in a row is seven numbers of 64 bits, in this order and with nothing between them. */
+HOLDS(verdict_has_56_bytes, sizeof(cushiedoo_verdict) == 56);
+STANDS_AT(number, 0);
+STANDS_AT(place, 1);
+STANDS_AT(record, 2);
+STANDS_AT(outcome, 3);
+STANDS_AT(start, 4);
+STANDS_AT(fall, 5);
+STANDS_AT(grade, 6);
+HOLDS(batch_has_32_bytes, sizeof(cushiedoo_batch) == 32);
 
 static int faults = 0;
 static int64_t values[5000];
@@ -142,6 +158,63 @@ static void states(void)
     expect(cushiedoo_bound(loop, sizeof loop, ranking, sizeof ranking, state, 1).number == CUSHIEDOO_STATE, "one more");
 }
 
+/* 0 <= 5 and 0 <= -1 over one variable, and the rankings with Y = (1, 0), Z = (0, 1) and with Y = Z = 0. */
+static const uint8_t level[] = {22, 0, 0, 0, 1, 0, 1, 0, 2, 0, 0, 0, 0, 0, 5, 0, 0, 0, 0, 0, 0, 0, 255, 255, 255, 255};
+static const uint8_t held[] = {10, 0, 0, 0, 2, 0, 1, 0, 0, 0, 0, 0, 1, 0};
+static const uint8_t zeros[] = {10, 0, 0, 0, 2, 0, 0, 0, 0, 0, 0, 0, 0, 0};
+
+/* Judges so many records, each no longer than its kind, with such a room, and gives the answer. */
+static cushiedoo_batch batch_of(size_t count, size_t verdicts_len, size_t ranks_len)
+{
+    static cushiedoo_verdict verdicts[CUSHIEDOO_MOST_RECORDS + 1];
+    static int64_t ranks[CUSHIEDOO_MOST_RECORDS + 1];
+    static uint8_t records[6 * (CUSHIEDOO_MOST_RECORDS + 8)];
+    size_t i;
+    for (i = 0; i < count; i++) {
+        records[6 * i] = 2;
+        records[6 * i + 4] = CUSHIEDOO_KIND_RANKING;
+    }
+    return cushiedoo_judge_all(level, sizeof level, records, 6 * count, verdicts, verdicts_len, ranks, ranks_len);
+}
+
+static int told(cushiedoo_batch batch, uint64_t number, uint64_t place, uint64_t record, uint64_t count)
+{
+    return batch.number == number && batch.place == place && batch.record == record && batch.count == count;
+}
+
+static void batches(void)
+{
+    size_t most = CUSHIEDOO_MOST_RECORDS;
+    expect(told(batch_of(0, 0, 0), CUSHIEDOO_DONE, 0, CUSHIEDOO_NEITHER, 0), "no bytes are no records");
+    expect(told(batch_of(most, most, most), CUSHIEDOO_DONE, 0, CUSHIEDOO_NEITHER, most), "most records");
+    expect(told(batch_of(most + 1, 0, 0), CUSHIEDOO_RECORDS, most + 1, CUSHIEDOO_NEITHER, 0), "one record more");
+    expect(told(batch_of(most + 8, 33, 33), CUSHIEDOO_RECORDS, most + 8, CUSHIEDOO_NEITHER, 0), "all are counted");
+    expect(told(batch_of(5, 4, 0), CUSHIEDOO_ROOM, 5, CUSHIEDOO_NEITHER, 0), "verdicts are asked for first");
+    expect(told(batch_of(5, 5, 4), CUSHIEDOO_ROOM, 5, CUSHIEDOO_NEITHER, 0), "and then rank numbers");
+}
+
+/* A row of verdicts is filled as an array of structs, each as a single call would have it, and the rest stays. */
+static void rows_of_verdicts(void)
+{
+    uint8_t records[sizeof held + sizeof zeros];
+    cushiedoo_verdict row[3], one;
+    int64_t ranks[3] = {7, 7, 7}, rank[1];
+    memcpy(records, held, sizeof held);
+    memcpy(records + sizeof held, zeros, sizeof zeros);
+    memset(row, 0x55, sizeof row);
+    cushiedoo_batch batch = cushiedoo_judge_all(level, sizeof level, records, sizeof records, row, 3, ranks, 3);
+    expect(told(batch, CUSHIEDOO_DONE, 0, CUSHIEDOO_NEITHER, 2), "two records");
+    expect(row[0].start == -5 && row[0].fall == 1 && row[0].outcome == CUSHIEDOO_RANKING, "a start below 0 in a row");
+    expect(row[1].number == 24 && row[1].record == CUSHIEDOO_CERTIFICATE, "a refused record in a row");
+    expect(row[2].number == 0x5555555555555555, "the row past the count");
+    expect(ranks[0] == 0 && ranks[1] == 7 && ranks[2] == 7, "a refused record's rank numbers");
+    one = cushiedoo_judge(level, sizeof level, held, sizeof held, rank, 1);
+    expect(memcmp(&one, &row[0], sizeof one) == 0 && rank[0] == ranks[0], "as a single call");
+    batch = cushiedoo_judge_all(held, sizeof held, records, sizeof records, row, 3, ranks, 3);
+    expect(told(batch, CUSHIEDOO_KIND, 4, CUSHIEDOO_LOOP, 0), "a loop that is none");
+    expect(row[0].fall == 1 && row[1].number == 24, "a refusal changes no verdict");
+}
+
 static void rooms(void)
 {
     static uint8_t input[CUSHIEDOO_MOST_SHEET + 2], text[CUSHIEDOO_SHEET_ROOM(2)];
@@ -168,6 +241,7 @@ static void words(void)
         expect(given == (strcmp(cushiedoo_words((uint64_t)number), unknown) != 0), "words of a number");
         expect(given == (strcmp(cushiedoo_place_words((uint64_t)number), "unknown") != 0), "words of a place");
     }
+    expect(strcmp(cushiedoo_words(CUSHIEDOO_RECORDS), "more than 32 records") == 0, "13");
     expect(strcmp(cushiedoo_words(CUSHIEDOO_ZEROS), "Y and Z of a short ranking's row are both zero") == 0, "16");
     expect(strcmp(cushiedoo_place_words(31), "row, from 0") == 0, "the place of 31");
     expect(strcmp(cushiedoo_record_words(CUSHIEDOO_CERTIFICATE), "the certificate") == 0, "a record");
@@ -183,6 +257,8 @@ int main(void)
     components();
     triples();
     states();
+    batches();
+    rows_of_verdicts();
     rooms();
     words();
     expect(CUSHIEDOO_VERSION == VERSION, "the version");

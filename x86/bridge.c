@@ -148,6 +148,12 @@ cushiedoo_verdict cushiedoo_judge(const uint8_t *loop, size_t loop_len, const ui
     return CALL(JUDGE, READ(loop), READ(certificate), LENT(rank)).verdict;
 }
 
+cushiedoo_batch cushiedoo_judge_all(const uint8_t *loop, size_t loop_len, const uint8_t *records, size_t records_len,
+                                    cushiedoo_verdict *verdicts, size_t verdicts_len, int64_t *ranks, size_t ranks_len)
+{
+    return CALL(JUDGE_ALL, READ(loop), READ(records), LENT(verdicts), LENT(ranks)).batch;
+}
+
 cushiedoo_bounded cushiedoo_bound(const uint8_t *loop, size_t loop_len, const uint8_t *certificate,
                                   size_t certificate_len, const int64_t *state, size_t state_len)
 {

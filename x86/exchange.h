@@ -9,12 +9,13 @@
 #include "cushiedoo.h"
 
 /* The calls. */
-enum { READ_LOOP, READ_CERTIFICATE, WRITE_RECORD, SHORTEN, LENGTHEN, SHEET, JUDGE, BOUND };
+enum { READ_LOOP, READ_CERTIFICATE, WRITE_RECORD, SHORTEN, LENGTHEN, SHEET, JUDGE, JUDGE_ALL, BOUND };
 
 typedef union {
     cushiedoo_reading reading;
     cushiedoo_writing writing;
     cushiedoo_verdict verdict;
+    cushiedoo_batch batch;
     cushiedoo_bounded bounded;
 } answer;
 

@@ -16,6 +16,7 @@ enum { READ_AND_WRITE = 3, SHARED = 1 };
 #define NUMBER(i) e->arguments[i].number
 #define BYTES(i) memory + e->arguments[i].place, NUMBER(i)
 #define NUMBERS(i) (int64_t *)(void *)(memory + e->arguments[i].place), NUMBER(i)
+#define VERDICTS(i) (cushiedoo_verdict *)(void *)(memory + e->arguments[i].place), NUMBER(i)
 
 /* Makes the call; 0 if there is no such call. */
 static int made(uint8_t *memory)
@@ -30,6 +31,7 @@ static int made(uint8_t *memory)
     case LENGTHEN: a->writing = cushiedoo_lengthen(BYTES(0), NUMBER(1), NUMBER(2), BYTES(3)); break;
     case SHEET: a->writing = cushiedoo_sheet(BYTES(0), BYTES(1)); break;
     case JUDGE: a->verdict = cushiedoo_judge(BYTES(0), BYTES(1), NUMBERS(2)); break;
+    case JUDGE_ALL: a->batch = cushiedoo_judge_all(BYTES(0), BYTES(1), VERDICTS(2), NUMBERS(3)); break;
     case BOUND: a->bounded = cushiedoo_bound(BYTES(0), BYTES(1), NUMBERS(2)); break;
     default: return 0;
     }

@@ -1,12 +1,15 @@
 /*
  * The one-pass C implementation that the archive is measured against: scalar code, nothing unpacked. Each row of the
- * loop is visited once; the visit tests its entries and adds them to the column totals straight from the bytes. It
- * answers as the archive does, on every input.
+ * loop is visited once; the visit tests its entries and adds them to the column totals straight from the bytes. Of several
+ * certificates at once the loop is tested first and then only added up. It answers as the archive does, on every input.
  */
 #include <stdbool.h>
 #include <string.h>
 
 #include "cushiedoo.h"
+
+/* Each pass is compiled twice: for a loop whose rows are fresh, that is not tested yet, and for one that has been. */
+#define PASS static inline __attribute__((always_inline))
 
 enum { MOST_VARIABLES = 16, MOST_ROWS = 64, MOST_PATHS = 8, MOST_COMPONENTS = 8 };
 
@@ -89,6 +92,10 @@ static fault certificate_frame(const uint8_t *bytes, size_t len, bool exclusions
     *ms = 0;
     switch (*kind) {
     case 2: return len == 6 + 4 * m ? none : fault_of(3, 0);
+    case 7:
+        if (len < 8) return fault_of(3, 0);
+        if (u16_at(bytes + 6) > MOST_ROWS) return fault_of(5, 6);
+        return len == 8 + 6 * u16_at(bytes + 6) ? none : fault_of(3, 0);
     case 3:
         if (!exclusions) return fault_of(4, 4);
         return len == 8 + 12 * n ? none : fault_of(3, 0);
@@ -135,13 +142,13 @@ typedef struct {
     int64_t yb, zb;
 } ranking_totals;
 
-/* Adds one row with its weights; tells whether a value of it is out of range. */
-static inline int add_row(ranking_totals *totals, const uint8_t *row, uint64_t n, int64_t y, int64_t z)
+/* Adds one row with its weights; tells whether a value of it is out of range, if it has not been tested before. */
+static inline int add_row(ranking_totals *totals, const uint8_t *row, uint64_t n, int64_t y, int64_t z, bool fresh)
 {
     int bad = 0;
     for (uint64_t j = 0; j < n; j++) {
         int64_t now = i16_at(row + 2 * j), next = i16_at(row + 2 * n + 2 * j);
-        bad |= entry_bad(now) | entry_bad(next);
+        if (fresh) bad |= entry_bad(now) | entry_bad(next);
         totals->ya_next[j] += y * next;
         totals->difference[j] += (y - z) * now;
         totals->both[j] += z * (now + next);
@@ -150,7 +157,7 @@ static inline int add_row(ranking_totals *totals, const uint8_t *row, uint64_t n
     int64_t right = i32_at(row + 4 * n);
     totals->yb += y * right;
     totals->zb += z * right;
-    return bad | right_bad(right);
+    return fresh && (bad | right_bad(right));
 }
 
 static void clear_totals(ranking_totals *totals, uint64_t n)
@@ -189,7 +196,7 @@ static void conclude(found *told, const ranking_totals *totals)
     told->fall = -totals->zb;
 }
 
-static void pass_ranking(found *told, const uint8_t *loop, uint64_t m, const uint8_t *certificate)
+PASS void pass_ranking(found *told, const uint8_t *loop, uint64_t m, const uint8_t *certificate, bool fresh)
 {
     uint64_t n = told->n, width = 4 * n + 4;
     int weights_bad = 0;
@@ -199,12 +206,46 @@ static void pass_ranking(found *told, const uint8_t *loop, uint64_t m, const uin
         const uint8_t *row = loop + 10 + i * width;
         int64_t y = u16_at(certificate + 6 + 2 * i), z = u16_at(certificate + 6 + 2 * m + 2 * i);
         weights_bad |= multiplier_bad(y) | multiplier_bad(z);
-        if (add_row(&totals, row, n, y, z)) {
+        if (add_row(&totals, row, n, y, z, fresh)) {
             told->loop = row_fault(row, n, 10 + i * width);
             return;
         }
     }
     if (weights_bad) told->certificate = multiplier_fault(certificate, 6, 2 * m);
+    conclude(told, &totals);
+}
+
+/* The first triple of a short ranking that is not in order or has no weight, then the first multiplier out of range. */
+static fault triples_fault(const uint8_t *bytes, uint64_t m)
+{
+    uint64_t count = u16_at(bytes + 6), least = 0;
+    for (uint64_t i = 0, place = 8; i < count; i++, place += 6) {
+        uint64_t row = u16_at(bytes + place);
+        if (row < least || row >= m) return fault_of(15, place);
+        if (!u32_at(bytes + place + 2)) return fault_of(16, place);
+        least = row + 1;
+    }
+    for (uint64_t i = 0, place = 10; i < count; i++, place += 6) {
+        if (multiplier_bad(u16_at(bytes + place))) return fault_of(6, place);
+        if (multiplier_bad(u16_at(bytes + place + 2))) return fault_of(6, place + 2);
+    }
+    return none;
+}
+
+/* Only rows that have weight are added. */
+PASS void pass_short(found *told, const uint8_t *loop, uint64_t m, const uint8_t *certificate, bool fresh)
+{
+    uint64_t n = told->n, width = 4 * n + 4, count = u16_at(certificate + 6);
+    ranking_totals totals;
+    if (fresh) told->loop = rows_fault(loop, 10, n, m);
+    if (told->loop.number) return;
+    told->certificate = triples_fault(certificate, m);
+    if (told->certificate.number) return;
+    clear_totals(&totals, n);
+    for (uint64_t i = 0; i < count; i++) {
+        const uint8_t *triple = certificate + 8 + 6 * i;
+        add_row(&totals, loop + 10 + u16_at(triple) * width, n, u16_at(triple + 2), u16_at(triple + 4), false);
+    }
     conclude(told, &totals);
 }
 
@@ -225,7 +266,7 @@ static uint64_t grade_of(int64_t q, const uint8_t *v, uint64_t n)
     return CUSHIEDOO_WHOLE;
 }
 
-static void pass_exclusion(found *told, const uint8_t *loop, uint64_t m, const uint8_t *certificate)
+PASS void pass_exclusion(found *told, const uint8_t *loop, uint64_t m, const uint8_t *certificate, bool fresh)
 {
     uint64_t n = told->n, width = 4 * n + 4;
     int64_t q = u16_at(certificate + 6);
@@ -233,17 +274,17 @@ static void pass_exclusion(found *told, const uint8_t *loop, uint64_t m, const u
     uint64_t left = m, missed = m; /* the first row that the direction leaves, and that the step does not meet */
     told->certificate = exclusion_fault(certificate, n);
     if (told->certificate.number) {
-        told->loop = rows_fault(loop, 10, n, m);
+        if (fresh) told->loop = rows_fault(loop, 10, n, m);
         return;
     }
     for (uint64_t i = 0; i < m; i++) {
         const uint8_t *row = loop + 10 + i * width;
         int64_t direction = 0, step = 0, right = i32_at(row + 4 * n);
-        int bad = right_bad(right);
+        int bad = fresh && right_bad(right);
         for (uint64_t j = 0; j < n; j++) {
             int64_t now = i16_at(row + 2 * j), next = i16_at(row + 2 * n + 2 * j);
             int64_t along = i32_at(v + 4 * j), to = i32_at(w + 4 * j);
-            bad |= entry_bad(now) | entry_bad(next);
+            if (fresh) bad |= entry_bad(now) | entry_bad(next);
             direction += now * along + next * i32_at(u + 4 * j);
             step += now * (to - along) + next * to;
         }
@@ -349,12 +390,12 @@ static fault pass_stem(part_totals *part, const uint8_t *certificate, const lass
 
 /* Adds one loop row to the ranking's totals and to those of "kept", or of the rise. */
 static inline int add_kept_row(ranking_totals *totals, part_totals *kept, const uint8_t *row, uint64_t n, int64_t h,
-                                int64_t y, int64_t z)
+                                int64_t y, int64_t z, bool fresh)
 {
     int bad = 0;
     for (uint64_t j = 0; j < n; j++) {
         int64_t now = i16_at(row + 2 * j), next = i16_at(row + 2 * n + 2 * j);
-        bad |= entry_bad(now) | entry_bad(next);
+        if (fresh) bad |= entry_bad(now) | entry_bad(next);
         kept->now[j] += h * now;
         kept->next[j] += h * next;
         totals->ya_next[j] += y * next;
@@ -366,7 +407,7 @@ static inline int add_kept_row(ranking_totals *totals, part_totals *kept, const 
     kept->right += h * right;
     totals->yb += y * right;
     totals->zb += z * right;
-    return bad | right_bad(right);
+    return fresh && (bad | right_bad(right));
 }
 
 /* Adds the row -s.x <= s0 with its weights. */
@@ -381,7 +422,8 @@ static void add_last_row(ranking_totals *totals, const uint8_t *s, int64_t s0, u
     totals->zb += z * s0;
 }
 
-static void pass_lasso(found *told, const uint8_t *loop, uint64_t m, const uint8_t *certificate, uint64_t ms)
+PASS void pass_lasso(found *told, const uint8_t *loop, uint64_t m, const uint8_t *certificate, uint64_t ms,
+                     bool fresh)
 {
     uint64_t n = told->n, width = 4 * n + 4;
     lasso_places at = places_of(n, m, ms);
@@ -393,7 +435,7 @@ static void pass_lasso(found *told, const uint8_t *loop, uint64_t m, const uint8
     for (uint64_t i = 0; i < m; i++) {
         const uint8_t *row = loop + 10 + i * width;
         int64_t h = u16_at(certificate + at.h + 2 * i), y = u16_at(certificate + at.y + 2 * i);
-        if (add_kept_row(&totals, &kept, row, n, h, y, u16_at(certificate + at.z + 2 * i))) {
+        if (add_kept_row(&totals, &kept, row, n, h, y, u16_at(certificate + at.z + 2 * i), fresh)) {
             told->loop = row_fault(row, n, 10 + i * width);
             return;
         }
@@ -424,7 +466,7 @@ static fault settling_fault(const uint8_t *bytes, uint64_t n, uint64_t m)
     return multiplier_fault(bytes, k + 2, m + 2 * (m + 1));
 }
 
-static void pass_settling(found *told, const uint8_t *loop, uint64_t m, const uint8_t *certificate)
+PASS void pass_settling(found *told, const uint8_t *loop, uint64_t m, const uint8_t *certificate, bool fresh)
 {
     uint64_t n = told->n, width = 4 * n + 4;
     const uint8_t *g = certificate + 6, *e = g + 2 * n + 6, *y = e + 2 * m, *z = y + 2 * (m + 1);
@@ -434,7 +476,7 @@ static void pass_settling(found *told, const uint8_t *loop, uint64_t m, const ui
     clear_totals(&totals, n);
     for (uint64_t i = 0; i < m; i++) {
         const uint8_t *row = loop + 10 + i * width;
-        if (add_kept_row(&totals, &rise, row, n, u16_at(e + 2 * i), u16_at(y + 2 * i), u16_at(z + 2 * i))) {
+        if (add_kept_row(&totals, &rise, row, n, u16_at(e + 2 * i), u16_at(y + 2 * i), u16_at(z + 2 * i), fresh)) {
             told->loop = row_fault(row, n, 10 + i * width);
             return;
         }
@@ -508,11 +550,12 @@ static fault argument_fault(const uint8_t *bytes, size_t len, uint64_t n, uint64
 
 /* Adds one row, with its weight in each of a path's lists of m weights, to the totals of that list. */
 static inline int add_path_row(part_totals *totals, const uint8_t *row, uint64_t n, const uint8_t *weights, uint64_t m,
-                               uint64_t lists)
+                               uint64_t lists, bool fresh)
 {
     int64_t right = i32_at(row + 4 * n);
-    int bad = right_bad(right);
-    for (uint64_t j = 0; j < 2 * n; j++) bad |= entry_bad(i16_at(row + 2 * j));
+    int bad = fresh && right_bad(right);
+    if (fresh)
+        for (uint64_t j = 0; j < 2 * n; j++) bad |= entry_bad(i16_at(row + 2 * j));
     for (uint64_t k = 0; k < lists; k++, totals++, weights += 2 * m) {
         int64_t weight = u16_at(weights);
         for (uint64_t j = 0; j < n; j++) {
@@ -547,17 +590,15 @@ static fault path_fault(const part_totals *totals, const uint8_t *components, ui
     return none;
 }
 
-static void pass_paths(found *told, const uint8_t *loop, size_t loop_len, const uint8_t *certificate,
-                       size_t certificate_len)
+/* The pass over an argument and the rows of all paths, of a loop whose counts are sound. */
+PASS void pass_argument(found *told, const uint8_t *loop, uint64_t paths, uint64_t rows, const uint8_t *certificate,
+                        size_t certificate_len, bool fresh)
 {
-    uint64_t paths = 0, rows = 0;
-    told->kind = CUSHIEDOO_LEXICOGRAPHIC;
-    told->loop = paths_frame(loop, loop_len, &told->n, &paths, &rows);
-    if (told->loop.number) return;
     uint64_t n = told->n, width = 4 * n + 4, place = 10 + 2 * paths;
+    told->kind = CUSHIEDOO_LEXICOGRAPHIC;
     told->certificate = argument_frame(certificate, certificate_len, loop, n, paths);
     if (told->certificate.number) {
-        told->loop = rows_fault(loop, place, n, rows);
+        if (fresh) told->loop = rows_fault(loop, place, n, rows);
         return;
     }
     const uint8_t *components = certificate + 8 + 2 * paths;
@@ -568,7 +609,7 @@ static void pass_paths(found *told, const uint8_t *loop, size_t loop_len, const 
         if (told->condition.number) lists = 0;
         for (uint64_t k = 0; k < lists; k++) clear_part(totals + k, n);
         for (uint64_t i = 0; i < m; i++, place += width)
-            if (add_path_row(totals, loop + place, n, weights + 2 * i, m, lists)) {
+            if (add_path_row(totals, loop + place, n, weights + 2 * i, m, lists, fresh)) {
                 told->loop = row_fault(loop + place, n, place);
                 return;
             }
@@ -578,28 +619,39 @@ static void pass_paths(found *told, const uint8_t *loop, size_t loop_len, const 
     told->certificate = argument_fault(certificate, certificate_len, n, paths);
 }
 
-static void pass(found *told, const uint8_t *loop, size_t loop_len, const uint8_t *certificate, size_t certificate_len,
-                 bool judging)
+/* The pass over a certificate and the rows of a loop whose counts are sound. */
+PASS void pass_certificate(found *told, const uint8_t *loop, uint64_t m, const uint8_t *certificate,
+                           size_t certificate_len, bool judging, bool fresh)
 {
-    uint64_t m = 0, ms = 0;
-    told->certificate = told->condition = none;
-    if (judging && loop_len >= 6 && u16_at(loop + 4) == 5) {
-        pass_paths(told, loop, loop_len, certificate, certificate_len);
-        return;
-    }
-    told->loop = loop_frame(loop, loop_len, &told->n, &m);
-    if (told->loop.number) return;
+    uint64_t ms = 0;
     told->certificate = certificate_frame(certificate, certificate_len, judging, told->n, m, &told->kind, &ms);
     if (told->certificate.number) {
-        told->loop = rows_fault(loop, 10, told->n, m);
+        if (fresh) told->loop = rows_fault(loop, 10, told->n, m);
         return;
     }
     switch (told->kind) {
-    case 2: pass_ranking(told, loop, m, certificate); break;
-    case 3: pass_exclusion(told, loop, m, certificate); break;
-    case 8: pass_settling(told, loop, m, certificate); break;
-    default: pass_lasso(told, loop, m, certificate, ms);
+    case 2: pass_ranking(told, loop, m, certificate, fresh); break;
+    case 3: pass_exclusion(told, loop, m, certificate, fresh); break;
+    case 7: pass_short(told, loop, m, certificate, fresh); break;
+    case 8: pass_settling(told, loop, m, certificate, fresh); break;
+    default: pass_lasso(told, loop, m, certificate, ms, fresh);
     }
+}
+
+static inline bool has_paths(const uint8_t *loop, size_t loop_len) { return loop_len >= 6 && u16_at(loop + 4) == 5; }
+
+static void pass(found *told, const uint8_t *loop, size_t loop_len, const uint8_t *certificate, size_t certificate_len,
+                 bool judging)
+{
+    uint64_t m = 0, paths = 0, rows = 0;
+    told->certificate = told->condition = none;
+    if (judging && has_paths(loop, loop_len)) {
+        told->loop = paths_frame(loop, loop_len, &told->n, &paths, &rows);
+        if (!told->loop.number) pass_argument(told, loop, paths, rows, certificate, certificate_len, true);
+        return;
+    }
+    told->loop = loop_frame(loop, loop_len, &told->n, &m);
+    if (!told->loop.number) pass_certificate(told, loop, m, certificate, certificate_len, judging, true);
 }
 
 static cushiedoo_verdict refused(uint64_t number, uint64_t place, uint64_t record)
@@ -614,7 +666,7 @@ static cushiedoo_verdict refused(uint64_t number, uint64_t place, uint64_t recor
 static cushiedoo_verdict accepted(const found *told)
 {
     cushiedoo_verdict verdict = {0, 0, 0, 0, 0, 0, 0};
-    verdict.outcome = told->kind;
+    verdict.outcome = told->kind == CUSHIEDOO_KIND_SHORT_RANKING ? CUSHIEDOO_RANKING : told->kind;
     if (told->kind == CUSHIEDOO_EXCLUSION) {
         verdict.grade = told->grade;
     } else if (told->kind != CUSHIEDOO_LEXICOGRAPHIC) {
@@ -624,18 +676,138 @@ static cushiedoo_verdict accepted(const found *told)
     return verdict;
 }
 
+/* What judging tells of what was found. */
+static inline cushiedoo_verdict verdict_on(const found *told, int64_t *rank, size_t rank_len)
+{
+    if (told->loop.number) return refused(told->loop.number, told->loop.place, 1);
+    if (told->certificate.number) return refused(told->certificate.number, told->certificate.place, 2);
+    bool ranked = told->kind != CUSHIEDOO_EXCLUSION && told->kind != CUSHIEDOO_LEXICOGRAPHIC;
+    if (ranked && rank_len < told->n) return refused(7, told->n, 0);
+    if (told->condition.number) return refused(told->condition.number, told->condition.place, 2);
+    if (ranked) memcpy(rank, told->r, told->n * sizeof *rank);
+    return accepted(told);
+}
+
 cushiedoo_verdict onepass_judge(const uint8_t *loop, size_t loop_len, const uint8_t *certificate,
                                 size_t certificate_len, int64_t *rank, size_t rank_len)
 {
     found told;
     pass(&told, loop, loop_len, certificate, certificate_len, true);
-    if (told.loop.number) return refused(told.loop.number, told.loop.place, 1);
-    if (told.certificate.number) return refused(told.certificate.number, told.certificate.place, 2);
-    bool ranked = told.kind != CUSHIEDOO_EXCLUSION && told.kind != CUSHIEDOO_LEXICOGRAPHIC;
-    if (ranked && rank_len < told.n) return refused(7, told.n, 0);
-    if (told.condition.number) return refused(told.condition.number, told.condition.place, 2);
-    if (ranked) memcpy(rank, told.r, told.n * sizeof *rank);
-    return accepted(&told);
+    return verdict_on(&told, rank, rank_len);
+}
+
+/* How many bytes the first record takes: 4 + L, or all if it can't be cut off so. */
+static size_t taken(const uint8_t *bytes, size_t len)
+{
+    if (len < 4) return len;
+    size_t length = u32_at(bytes);
+    return length < 2 || len < 4 + length ? len : 4 + length;
+}
+
+static cushiedoo_batch batch_of(uint64_t number, uint64_t place, uint64_t record, uint64_t count)
+{
+    cushiedoo_batch batch = {number, place, record, count};
+    return batch;
+}
+
+cushiedoo_batch onepass_judge_all(const uint8_t *loop, size_t loop_len, const uint8_t *records, size_t records_len,
+                                  cushiedoo_verdict *verdicts, size_t verdicts_len, int64_t *ranks, size_t ranks_len)
+{
+    uint64_t n = 0, m = 0, paths = 0, rows = 0, count = 0;
+    bool of_paths = has_paths(loop, loop_len);
+    fault told = of_paths ? paths_frame(loop, loop_len, &n, &paths, &rows) : loop_frame(loop, loop_len, &n, &m);
+    if (!told.number) told = of_paths ? rows_fault(loop, 10 + 2 * paths, n, rows) : rows_fault(loop, 10, n, m);
+    if (told.number) return batch_of(told.number, told.place, 1, 0);
+    for (size_t from = 0; from < records_len; count++) from += taken(records + from, records_len - from);
+    if (count > CUSHIEDOO_MOST_RECORDS) return batch_of(13, count, 0, 0);
+    if (verdicts_len < count) return batch_of(7, count, 0, 0);
+    if (ranks_len < n * count) return batch_of(7, n * count, 0, 0);
+    for (uint64_t i = 0; i < count; i++) {
+        size_t length = taken(records, records_len);
+        found one;
+        one.n = n;
+        one.loop = one.certificate = one.condition = none;
+        if (of_paths)
+            pass_argument(&one, loop, paths, rows, records, length, false);
+        else
+            pass_certificate(&one, loop, m, records, length, true, false);
+        verdicts[i] = verdict_on(&one, ranks + n * i, n);
+        records += length;
+        records_len -= length;
+    }
+    return batch_of(0, 0, 0, count);
+}
+
+/* The tests of a ranking's record of the kind that is wanted, with n and m as arguments, up to its multipliers. */
+static fault ranking_frame(const uint8_t *bytes, size_t len, uint64_t wanted, uint64_t n, uint64_t m)
+{
+    uint64_t kind = 0, ms = 0;
+    fault framed = frame(bytes, len);
+    if (framed.number) return framed;
+    if (u16_at(bytes + 4) != wanted) return fault_of(4, 4);
+    if (n < 1 || n > MOST_VARIABLES || m > MOST_ROWS) return fault_of(5, 0);
+    return certificate_frame(bytes, len, false, n, m, &kind, &ms);
+}
+
+static inline void put_u16(uint8_t *p, uint64_t value)
+{
+    p[0] = (uint8_t)value;
+    p[1] = (uint8_t)(value >> 8);
+}
+
+static inline void put_head(uint8_t *p, uint64_t bytes, uint64_t kind)
+{
+    put_u16(p, (bytes - 4) & 0xffff);
+    put_u16(p + 2, (bytes - 4) >> 16);
+    put_u16(p + 4, kind);
+}
+
+static cushiedoo_writing written(uint64_t number, uint64_t place, uint64_t bytes)
+{
+    cushiedoo_writing writing = {number, place, bytes};
+    return writing;
+}
+
+cushiedoo_writing onepass_shorten(const uint8_t *ranking, size_t ranking_len, uint64_t n, uint64_t m, uint8_t *room,
+                                  size_t room_len)
+{
+    uint64_t count = 0;
+    const uint8_t *y = ranking + 6, *z = y + 2 * m;
+    fault told = ranking_frame(ranking, ranking_len, 2, n, m);
+    if (!told.number) told = multiplier_fault(ranking, 6, 2 * m);
+    if (told.number) return written(told.number, told.place, 0);
+    for (uint64_t i = 0; i < m; i++) count += (u16_at(y + 2 * i) | u16_at(z + 2 * i)) != 0;
+    uint64_t bytes = 8 + 6 * count;
+    if (room_len < bytes) return written(7, bytes, 0);
+    put_head(room, bytes, 7);
+    put_u16(room + 6, count);
+    uint8_t *triple = room + 8;
+    for (uint64_t i = 0; i < m; i++) {
+        if (!(u16_at(y + 2 * i) | u16_at(z + 2 * i))) continue;
+        put_u16(triple, i);
+        memcpy(triple + 2, y + 2 * i, 2);
+        memcpy(triple + 4, z + 2 * i, 2);
+        triple += 6;
+    }
+    return written(0, 0, bytes);
+}
+
+cushiedoo_writing onepass_lengthen(const uint8_t *ranking, size_t ranking_len, uint64_t n, uint64_t m, uint8_t *room,
+                                   size_t room_len)
+{
+    uint64_t bytes = 6 + 4 * m;
+    fault told = ranking_frame(ranking, ranking_len, 7, n, m);
+    if (!told.number) told = triples_fault(ranking, m);
+    if (told.number) return written(told.number, told.place, 0);
+    if (room_len < bytes) return written(7, bytes, 0);
+    put_head(room, bytes, 2);
+    memset(room + 6, 0, 4 * m);
+    for (uint64_t i = 0; i < u16_at(ranking + 6); i++) {
+        const uint8_t *triple = ranking + 8 + 6 * i;
+        memcpy(room + 6 + 2 * u16_at(triple), triple + 2, 2);
+        memcpy(room + 6 + 2 * m + 2 * u16_at(triple), triple + 4, 2);
+    }
+    return written(0, 0, bytes);
 }
 
 static cushiedoo_bounded unbounded(cushiedoo_verdict verdict)

@@ -1,13 +1,14 @@
-//! Measures judging and bound side by side on the same bytes: through the archive, in plain Rust, and in one-pass C.
+//! Measures judging, bound, batches and the moving of rankings side by side on the same bytes: through the archive, in plain
+//! Rust, and in one-pass C.
 //!
-//!     cargo run --release -- [--markdown] [--repeats N] [--only PART]    times, growth, sheets
+//!     cargo run --release -- [--markdown] [--repeats N] [--only PART]    times, growth, sheets, short rankings, batches
 //!     cargo run --release -- --instructions [--markdown] [--only PART]   instructions a call, by callgrind
 //!     cargo run --release -- --list                                      the names of all cases
-//!     cargo run --release -- --case NAME --with archive|plain|c --calls N
+//!     cargo run --release -- --case NAME --with archive|plain|c|one-by-one --calls N
 //!
 //! `--only` takes the cases whose name has the part in it, such as `judge-2` or `16x64-dense-accepted`. The last form
-//! makes so many calls of one case with one implementation and nothing else, for a profiler to watch. All three
-//! must give the same answer on every case, or the run fails.
+//! makes so many calls of one case with one implementation and nothing else, for a profiler to watch; a batch also one by one
+//! through the archive. All three must give the same answer on every case, or the run fails.
 
 mod contenders;
 mod measure;
@@ -18,7 +19,7 @@ mod subjects;
 use contenders::{Contender, CONTENDERS};
 use std::process::ExitCode;
 use std::str::FromStr;
-use subjects::{subjects, Subject};
+use subjects::{subjects, Call, Subject};
 
 struct Options {
     markdown: bool,
@@ -88,11 +89,15 @@ fn agree(subject: &Subject) -> Result<(), String> {
 }
 
 fn run_alone(subjects: &[Subject], alone: &Alone) -> Result<(), String> {
-    let named = |contender: &&Contender| contender.name() == alone.with;
-    let contender = CONTENDERS.iter().find(named);
-    let contender = contender.ok_or("--with takes archive, plain or c")?;
     let subject = subjects.iter().find(|subject| subject.name() == alone.case);
     let subject = subject.ok_or("--case takes a name that --list prints")?;
+    if alone.with == measure::ONE_BY_ONE && subject.call == Call::JudgeAll {
+        measure::one_by_one(subject)(alone.calls);
+        return Ok(());
+    }
+    let named = |contender: &&Contender| contender.name() == alone.with;
+    let contender = CONTENDERS.iter().find(named);
+    let contender = contender.ok_or("--with takes archive, plain or c; of a batch one-by-one")?;
     measure::work(subject, *contender)(alone.calls);
     Ok(())
 }
@@ -108,6 +113,10 @@ fn report_times(options: &Options, subjects: Vec<Subject>) {
     report::growth_table(options.markdown, &measured);
     println!("\nSheets: accepted certificates, dense rows, through the archive.\n");
     report::sheet_table(options.markdown, &subjects, options.repeats.div_ceil(10));
+    println!("\nShort rankings beside the rankings that they stand for, through the archive.\n");
+    report::short_table(options.markdown, &subjects, options.repeats);
+    println!("\nBatches of 32, nanoseconds a certificate.\n");
+    report::batch_table(options.markdown, &subjects, options.repeats);
 }
 
 fn run() -> Result<(), String> {

@@ -2,13 +2,14 @@
 //! nothing, stops at the first fault, and then computes; there is no trick in it. Numbers are held as i64, the type of
 //! the value lists. It answers as the archive does.
 
-use cushiedoo::raw::{Bounded, Verdict};
+use cushiedoo::raw::{Batch, Bounded, Verdict, Writing};
 use std::array;
 
 const MOST_VARIABLES: usize = 16;
 const MOST_ROWS: usize = 64;
 const MOST_PATHS: usize = 8;
 const MOST_COMPONENTS: usize = 8;
+const MOST_RECORDS: usize = 32;
 /// Bounded, ranking, and unaffecting for each component before the last.
 const MOST_LISTS: usize = 2 + MOST_COMPONENTS - 1;
 /// The largest b, d, s0 and t, either way.
@@ -184,6 +185,43 @@ fn parse_ranking(bytes: &[u8], m: usize) -> Result<Ranking, Fault> {
     let mut cursor = Cursor { bytes, place: 6 };
     cursor.multipliers(&mut ranking.y[..m])?;
     cursor.multipliers(&mut ranking.z[..m])?;
+    Ok(ranking)
+}
+
+/// A short ranking: rows that it does not name have no weight.
+fn parse_short(bytes: &[u8], m: usize) -> Result<Ranking, Fault> {
+    if bytes.len() < 8 {
+        return Err((3, 0));
+    }
+    let count = u16_at(bytes, 6);
+    if count > MOST_ROWS {
+        return Err((5, 6));
+    }
+    if bytes.len() != 8 + 6 * count {
+        return Err((3, 0));
+    }
+    let mut least = 0;
+    for place in (8..bytes.len()).step_by(6) {
+        let row = u16_at(bytes, place);
+        if row < least || row >= m {
+            return Err((15, place as u64));
+        }
+        if bytes[place + 2..place + 6] == [0; 4] {
+            return Err((16, place as u64));
+        }
+        least = row + 1;
+    }
+    let mut ranking = Ranking {
+        y: NO_MULTIPLIERS,
+        z: NO_MULTIPLIERS,
+    };
+    let mut cursor = Cursor { bytes, place: 8 };
+    while cursor.place < bytes.len() {
+        let row = u16_at(bytes, cursor.place);
+        cursor.place += 2;
+        ranking.y[row] = cursor.u16(0, 60_000)?;
+        ranking.z[row] = cursor.u16(0, 60_000)?;
+    }
     Ok(ranking)
 }
 
@@ -646,29 +684,45 @@ fn judged(looped: &[u8], certificate: &[u8], list: &mut [i64]) -> Result<Verdict
     let (n, m) = loop_counts(looped).map_err(of_loop)?;
     let mut rows = Rows::NONE;
     parse_loop(looped, &mut rows, n, m).map_err(of_loop)?;
+    judged_for(&rows, n, certificate, list)
+}
+
+/// Judges a certificate for a loop that was parsed.
+#[inline(always)]
+fn judged_for(
+    rows: &Rows,
+    n: usize,
+    certificate: &[u8],
+    list: &mut [i64],
+) -> Result<Verdict, Refused> {
+    let m = rows.count;
     match framed_kind(certificate).map_err(of_certificate)? {
-        2 => {
-            let ranking = parse_ranking(certificate, m).map_err(of_certificate)?;
+        kind @ (2 | 7) => {
+            let ranking = match kind {
+                2 => parse_ranking(certificate, m),
+                _ => parse_short(certificate, m),
+            };
+            let ranking = ranking.map_err(of_certificate)?;
             room_for(n, list)?;
-            let rank = rank(&ranking, &rows, n, &NO_ENTRIES, 0).map_err(of_certificate)?;
+            let rank = rank(&ranking, rows, n, &NO_ENTRIES, 0).map_err(of_certificate)?;
             Ok(fill(list, &rank, n, 2))
         }
         3 => {
             let exclusion = parse_exclusion(certificate, n).map_err(of_certificate)?;
-            excluded(&exclusion, &rows, n).map_err(of_certificate)?;
+            excluded(&exclusion, rows, n).map_err(of_certificate)?;
             Ok(verdict(3, 0, 0, grade(&exclusion)))
         }
         4 => {
             let mut lasso = Lasso::NONE;
             lasso.parse(certificate, n, m).map_err(of_certificate)?;
             room_for(n, list)?;
-            let rank = lasso.rank(&rows, n).map_err(of_certificate)?;
+            let rank = lasso.rank(rows, n).map_err(of_certificate)?;
             Ok(fill(list, &rank, n, 4))
         }
         8 => {
             let settling = parse_settling(certificate, n, m).map_err(of_certificate)?;
             room_for(n, list)?;
-            let rank = settling.rank(&rows, n).map_err(of_certificate)?;
+            let rank = settling.rank(rows, n).map_err(of_certificate)?;
             Ok(fill(list, &rank, n, 8))
         }
         _ => Err((4, 4, 2)),
@@ -684,14 +738,20 @@ fn judged_paths(looped: &[u8], certificate: &[u8]) -> Result<Verdict, Refused> {
         rows: array::from_fn(|_| None),
     };
     branches.parse(looped).map_err(of_loop)?;
+    judged_argument(&branches, certificate)
+}
+
+/// Judges an argument for a loop of several paths that was parsed.
+#[inline(always)]
+fn judged_argument(branches: &Branches, certificate: &[u8]) -> Result<Verdict, Refused> {
     let mut argument = Argument {
         components: [NO_COMPONENT; MOST_COMPONENTS],
         parts: array::from_fn(|_| None),
     };
     argument
-        .parse(certificate, &branches)
+        .parse(certificate, branches)
         .map_err(of_certificate)?;
-    argument.judged(&branches).map_err(of_certificate)?;
+    argument.judged(branches).map_err(of_certificate)?;
     Ok(verdict(6, 0, 0, 0))
 }
 
@@ -702,6 +762,186 @@ pub fn judge(looped: &[u8], certificate: &[u8], list: &mut [i64]) -> Verdict {
         false => judged(looped, certificate, list),
     };
     judged.unwrap_or_else(refused)
+}
+
+/// Where the record that starts there ends: after 4 + L bytes, or with the bytes if it can't be cut off so.
+fn record_end(bytes: &[u8], from: usize) -> usize {
+    let rest = &bytes[from..];
+    if rest.len() < 4 {
+        return bytes.len();
+    }
+    let length = u32::from_le_bytes([rest[0], rest[1], rest[2], rest[3]]) as usize;
+    match length < 2 || rest.len() < 4 + length {
+        true => bytes.len(),
+        false => from + 4 + length,
+    }
+}
+
+/// The count of records, once there are not too many of them and room for each.
+fn counted(bytes: &[u8], n: usize, places: usize, numbers: usize) -> Result<usize, Refused> {
+    let (mut count, mut from) = (0, 0);
+    while from < bytes.len() {
+        from = record_end(bytes, from);
+        count += 1;
+    }
+    if count > MOST_RECORDS {
+        return Err((13, count as u64, 0));
+    }
+    if places < count {
+        return Err((7, count as u64, 0));
+    }
+    if numbers < n * count {
+        return Err((7, (n * count) as u64, 0));
+    }
+    Ok(count)
+}
+
+/// Puts a verdict for each record, each with the next n numbers as its rank list.
+#[inline(always)]
+fn judge_each(
+    bytes: &[u8],
+    n: usize,
+    verdicts: &mut [Verdict],
+    ranks: &mut [i64],
+    judged: impl Fn(&[u8], &mut [i64]) -> Result<Verdict, Refused>,
+) -> Result<usize, Refused> {
+    let count = counted(bytes, n, verdicts.len(), ranks.len())?;
+    let mut from = 0;
+    for (verdict, rank) in verdicts[..count].iter_mut().zip(ranks.chunks_mut(n)) {
+        let end = record_end(bytes, from);
+        *verdict = judged(&bytes[from..end], rank).unwrap_or_else(refused);
+        from = end;
+    }
+    Ok(count)
+}
+
+fn judged_all(
+    looped: &[u8],
+    bytes: &[u8],
+    verdicts: &mut [Verdict],
+    ranks: &mut [i64],
+) -> Result<usize, Refused> {
+    let (n, m) = loop_counts(looped).map_err(of_loop)?;
+    let mut rows = Rows::NONE;
+    parse_loop(looped, &mut rows, n, m).map_err(of_loop)?;
+    judge_each(bytes, n, verdicts, ranks, |certificate, rank| {
+        judged_for(&rows, n, certificate, rank)
+    })
+}
+
+#[inline(never)]
+fn judged_all_paths(
+    looped: &[u8],
+    bytes: &[u8],
+    verdicts: &mut [Verdict],
+    ranks: &mut [i64],
+) -> Result<usize, Refused> {
+    let mut branches = Branches {
+        n: 0,
+        count: 0,
+        rows: array::from_fn(|_| None),
+    };
+    branches.parse(looped).map_err(of_loop)?;
+    judge_each(bytes, branches.n, verdicts, ranks, |certificate, _| {
+        judged_argument(&branches, certificate)
+    })
+}
+
+/// As `cushiedoo_judge_all`.
+pub fn judge_all(
+    looped: &[u8],
+    bytes: &[u8],
+    verdicts: &mut [Verdict],
+    ranks: &mut [i64],
+) -> Batch {
+    let judged = match looped.len() >= 6 && u16_at(looped, 4) == 5 {
+        true => judged_all_paths(looped, bytes, verdicts, ranks),
+        false => judged_all(looped, bytes, verdicts, ranks),
+    };
+    let ((number, place, record), count) = match judged {
+        Ok(count) => ((0, 0, 0), count as u64),
+        Err(refusal) => (refusal, 0),
+    };
+    Batch {
+        number,
+        place,
+        record,
+        count,
+    }
+}
+
+/// Which ranking is wanted, and n and m as arguments.
+fn wanted(bytes: &[u8], kind: usize, n: u64, m: u64) -> Result<usize, Fault> {
+    if framed_kind(bytes)? != kind {
+        return Err((4, 4));
+    }
+    if !(1..=MOST_VARIABLES as u64).contains(&n) || m > MOST_ROWS as u64 {
+        return Err((5, 0));
+    }
+    Ok(m as usize)
+}
+
+/// Puts L, a kind and then numbers of two bytes, once there is room for them.
+fn put(
+    room: &mut [u8],
+    kind: u16,
+    count: usize,
+    numbers: impl Iterator<Item = u16>,
+) -> Result<usize, Fault> {
+    let length = 6 + 2 * count;
+    if room.len() < length {
+        return Err((7, length as u64));
+    }
+    room[..4].copy_from_slice(&(length as u32 - 4).to_le_bytes());
+    room[4..6].copy_from_slice(&kind.to_le_bytes());
+    for (place, number) in room[6..length].chunks_exact_mut(2).zip(numbers) {
+        place.copy_from_slice(&number.to_le_bytes());
+    }
+    Ok(length)
+}
+
+fn shortened(bytes: &[u8], n: u64, m: u64, room: &mut [u8]) -> Result<usize, Fault> {
+    let m = wanted(bytes, 2, n, m)?;
+    let Ranking { y, z } = parse_ranking(bytes, m)?;
+    let weighty = |&row: &usize| y[row] != 0 || z[row] != 0;
+    let rows = (0..m).filter(weighty);
+    let count = rows.clone().count();
+    let triples = rows.flat_map(|row| [row as u16, y[row] as u16, z[row] as u16]);
+    put(
+        room,
+        7,
+        1 + 3 * count,
+        [count as u16].into_iter().chain(triples),
+    )
+}
+
+fn lengthened(bytes: &[u8], n: u64, m: u64, room: &mut [u8]) -> Result<usize, Fault> {
+    let m = wanted(bytes, 7, n, m)?;
+    let Ranking { y, z } = parse_short(bytes, m)?;
+    let multipliers = y[..m].iter().chain(&z[..m]);
+    put(room, 2, 2 * m, multipliers.map(|&weight| weight as u16))
+}
+
+fn writing(written: Result<usize, Fault>) -> Writing {
+    let ((number, place), written) = match written {
+        Ok(written) => ((0, 0), written as u64),
+        Err(fault) => (fault, 0),
+    };
+    Writing {
+        number,
+        place,
+        written,
+    }
+}
+
+/// As `cushiedoo_shorten`.
+pub fn shorten(bytes: &[u8], n: u64, m: u64, room: &mut [u8]) -> Writing {
+    writing(shortened(bytes, n, m, room))
+}
+
+/// As `cushiedoo_lengthen`.
+pub fn lengthen(bytes: &[u8], n: u64, m: u64, room: &mut [u8]) -> Writing {
+    writing(lengthened(bytes, n, m, room))
 }
 
 fn state_in_range(state: &[i64], n: usize) -> Result<(), Refused> {
@@ -730,8 +970,12 @@ fn bounded(looped: &[u8], certificate: &[u8], state: &[i64]) -> Result<(Verdict,
     let mut rows = Rows::NONE;
     parse_loop(looped, &mut rows, n, m).map_err(of_loop)?;
     match framed_kind(certificate).map_err(of_certificate)? {
-        2 => {
-            let ranking = parse_ranking(certificate, m).map_err(of_certificate)?;
+        kind @ (2 | 7) => {
+            let ranking = match kind {
+                2 => parse_ranking(certificate, m),
+                _ => parse_short(certificate, m),
+            };
+            let ranking = ranking.map_err(of_certificate)?;
             state_in_range(state, n)?;
             let rank = rank(&ranking, &rows, n, &NO_ENTRIES, 0).map_err(of_certificate)?;
             Ok(bound_at(&rank, state, 2))

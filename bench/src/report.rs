@@ -1,8 +1,8 @@
 //! The tables.
 
 use crate::contenders::{Contender, CONTENDERS};
-use crate::measure::{instructions, repeated, side_by_side, work, Time};
-use crate::subjects::{Answer, Call, Fill, Kind, Subject};
+use crate::measure::{instructions, one_by_one, repeated, side_by_side, work, Time, ONE_BY_ONE};
+use crate::subjects::{Answer, Call, Fill, Kind, Subject, BATCH, ROOM};
 use std::hint::black_box;
 
 /// A table of words, printed with blanks or as Markdown.
@@ -51,7 +51,7 @@ impl Table {
 
 fn subject_cells(subject: &Subject) -> Vec<String> {
     let words = [
-        format!("{:?}", subject.call),
+        subject.call.name().to_string(),
         subject.kind.number().to_string(),
         subject.size(),
         format!("{:?}", subject.fill),
@@ -120,6 +120,7 @@ pub fn growth_table(markdown: bool, measured: &[(Subject, Vec<Time>)]) {
             Kind::Exclusion,
             Kind::Lasso,
             Kind::Lexicographic,
+            Kind::Short,
             Kind::Settling,
         ] {
             let wanted = (call, kind, Fill::Dense, Answer::Accepted);
@@ -191,23 +192,131 @@ pub fn sheet_table(markdown: bool, subjects: &[Subject], repeats: usize) {
     table.print();
 }
 
-/// Instructions a call, as callgrind counts them.
+/// Short rankings, judged and bounded, beside the rankings that they stand for, both through the archive.
+pub fn short_table(markdown: bool, subjects: &[Subject], repeats: usize) {
+    let heads = [
+        "call",
+        "n, m",
+        "weight",
+        "answer",
+        "bytes, kind 2",
+        "kind 7",
+        "kind 2, ns",
+        "kind 7, ns",
+        "kind 7/kind 2",
+    ];
+    let mut table = Table::new(markdown, &heads);
+    let judged = |subject: &&Subject| {
+        subject.kind == Kind::Short && [Call::Judge, Call::Bound].contains(&subject.call)
+    };
+    for short in subjects.iter().filter(judged) {
+        let long = lengthened(short);
+        let mut works = [&long, short].map(|subject| work(subject, Contender::Archive));
+        let times = side_by_side(&mut works, repeats);
+        table.add(vec![
+            short.call.name().to_string(),
+            short.size(),
+            format!("{:?}", short.fill).to_lowercase(),
+            format!("{:?}", short.answer).to_lowercase(),
+            long.certificate.len().to_string(),
+            short.certificate.len().to_string(),
+            format!("{:.1}", times[0].minimum),
+            format!("{:.1}", times[1].minimum),
+            format!("{:.2}", times[1].minimum / times[0].minimum),
+        ]);
+    }
+    table.print();
+}
+
+/// The subject with the ranking that a short one stands for.
+fn lengthened(short: &Subject) -> Subject {
+    let mut room = [0; ROOM];
+    let (n, m) = (short.n as u64, short.m as u64);
+    let written = cushiedoo::lengthen(&short.certificate, n, m, &mut room).expect("it is sound");
+    Subject {
+        kind: Kind::Ranking,
+        certificate: room[..written].to_vec(),
+        ..short.clone()
+    }
+}
+
+/// Batches beside as many single judgings through the archive, and beside the others' batches.
+pub fn batch_table(markdown: bool, subjects: &[Subject], repeats: usize) {
+    let heads = [
+        "kind",
+        "n, m",
+        "rows",
+        "batch",
+        "one by one",
+        "plain batch",
+        "c batch",
+        "batch/one by one",
+        "archive/plain",
+        "archive/c",
+    ];
+    let mut table = Table::new(markdown, &heads);
+    let batches = subjects
+        .iter()
+        .filter(|subject| subject.call == Call::JudgeAll);
+    for subject in batches {
+        let mut works = CONTENDERS.map(|contender| work(subject, contender)).into();
+        let works: &mut Vec<_> = &mut works;
+        works.push(one_by_one(subject));
+        let times = side_by_side(works, repeats);
+        let [archive, plain, c, singles] = [0, 1, 2, 3].map(|i| times[i].minimum);
+        let each = |time: f64| format!("{:.1}", time / BATCH as f64);
+        table.add(vec![
+            subject.kind.number().to_string(),
+            subject.size(),
+            format!("{:?}", subject.fill).to_lowercase(),
+            each(archive),
+            each(singles),
+            each(plain),
+            each(c),
+            format!("{:.3}", archive / singles),
+            format!("{:.2}", archive / plain),
+            format!("{:.2}", archive / c),
+        ]);
+    }
+    table.print();
+}
+
+/// Instructions a call, as callgrind counts them. Of a batch those of as many single judgings stand last.
 pub fn instruction_table(markdown: bool, subjects: &[Subject]) {
-    let own = ["archive", "plain", "c", "archive/plain", "archive/c"];
+    let own = [
+        "archive",
+        "plain",
+        "c",
+        "archive/plain",
+        "archive/c",
+        "one by one",
+        "batch/one by one",
+    ];
     let mut table = Table::new(markdown, &[&SUBJECT_HEADS[..], &own].concat());
     for subject in subjects {
-        let counts: Option<Vec<u64>> = CONTENDERS
+        let mut with = CONTENDERS.map(Contender::name).to_vec();
+        if subject.call == Call::JudgeAll {
+            with.push(ONE_BY_ONE);
+        }
+        let counts: Option<Vec<u64>> = with
             .iter()
-            .map(|contender| instructions(subject, *contender))
+            .map(|with| instructions(subject, with))
             .collect();
         let Some(counts) = counts else {
             println!("valgrind can't be run, so no instructions are counted");
             return;
         };
         let mut cells = subject_cells(subject);
-        cells.extend(counts.iter().map(u64::to_string));
+        cells.extend(counts[..3].iter().map(u64::to_string));
         cells.push(format!("{:.2}", counts[0] as f64 / counts[1] as f64));
         cells.push(format!("{:.2}", counts[0] as f64 / counts[2] as f64));
+        match counts.get(3) {
+            Some(singles) => {
+                cells.push(singles.to_string());
+                cells.push(format!("{:.3}", counts[0] as f64 / *singles as f64));
+            }
+            None => cells.extend([String::new(), String::new()]),
+        }
         table.add(cells);
     }
     table.print();

@@ -1,16 +1,18 @@
 //! What is measured: each call on loops of five sizes with certificates of each kind, dense and sparse, accepted and
-//! refused at several points; loops of several paths have one path to eight. A tenth of the right sides lie near the ends of
-//! their range.
+//! refused at several points; loops of several paths have one path to eight. Rankings also with weight in two rows alone, long
+//! and short, moved to kind 7 and back; and 32 certificates at once. A tenth of the right sides lie near the ends of their range.
 
 use crate::contenders::Contender;
-use cushiedoo::raw::{Bounded, Verdict};
+use cushiedoo::raw::{Batch, Bounded, Verdict, Writing};
 use second_opinion::construct::{
-    self, bring_to_edge, conditions_of, fail, spoil, Built, BuiltPaths, Condition, Inequality,
-    PathSizes, Style, Wrong, NEAR,
+    self, bring_to_edge, conditions_of, fail, scale, scale_argument, spoil, Built, BuiltPaths,
+    Condition, Inequality, PathSizes, Style, Wrong, NEAR,
 };
+use second_opinion::forms::Pair;
 use second_opinion::oracle::conditions::Row;
 use second_opinion::oracle::judging::Certificate;
 use second_opinion::oracle::layout::RIGHT;
+use second_opinion::oracle::short::{short_bytes, triples_of};
 use second_opinion::random::Random;
 
 /// The kind of certificate that is judged.
@@ -20,6 +22,7 @@ pub enum Kind {
     Exclusion,
     Lasso,
     Lexicographic,
+    Short,
     Settling,
 }
 
@@ -30,6 +33,7 @@ impl Kind {
             Kind::Exclusion => 3,
             Kind::Lasso => 4,
             Kind::Lexicographic => 6,
+            Kind::Short => 7,
             Kind::Settling => 8,
         }
     }
@@ -39,7 +43,27 @@ impl Kind {
 pub enum Call {
     Judge,
     Bound,
+    /// 32 certificates at once.
+    JudgeAll,
+    /// A ranking to kind 7, and a short one to kind 2.
+    Shorten,
+    Lengthen,
 }
+
+impl Call {
+    pub fn name(self) -> &'static str {
+        match self {
+            Call::Judge => "judge",
+            Call::Bound => "bound",
+            Call::JudgeAll => "judge_all",
+            Call::Shorten => "shorten",
+            Call::Lengthen => "lengthen",
+        }
+    }
+}
+
+/// The certificates of a batch.
+pub const BATCH: usize = 32;
 
 /// How full the rows are. Multipliers are all above 0, but for those of the two or three rows that close the sums;
 /// these rows are full in sparse loops too.
@@ -48,6 +72,8 @@ pub enum Fill {
     Dense,
     /// Nine zeros in ten.
     Sparse,
+    /// Rows as in dense loops, of which two alone have weight. For rankings, long and short.
+    Few,
 }
 
 /// Where the answer falls.
@@ -73,7 +99,23 @@ pub enum Answer {
 pub const SIZES: [(usize, usize); 5] = [(1, 1), (2, 3), (4, 8), (8, 24), (16, 64)];
 /// With each of the sizes, so many paths, each with as many rows and a component of its own.
 const PATHS: [usize; 5] = [1, 2, 3, 4, 8];
-const KINDS: [Kind; 4] = [Kind::Ranking, Kind::Exclusion, Kind::Lasso, Kind::Settling];
+const KINDS: [Kind; 5] = [
+    Kind::Ranking,
+    Kind::Exclusion,
+    Kind::Lasso,
+    Kind::Short,
+    Kind::Settling,
+];
+
+/// How full the rows and multipliers of a kind are. With one row no ranking has weight in two.
+fn fills(kind: Kind, m: usize) -> &'static [Fill] {
+    match kind {
+        Kind::Ranking if m > 1 => &[Fill::Dense, Fill::Sparse, Fill::Few],
+        Kind::Short if m > 1 => &[Fill::Dense, Fill::Few],
+        Kind::Short => &[Fill::Dense],
+        _ => &[Fill::Dense, Fill::Sparse],
+    }
+}
 
 /// What is measured of a kind; one refusal is of this kind alone.
 fn answers(kind: Kind) -> [Answer; 5] {
@@ -104,15 +146,18 @@ pub struct Subject {
     pub fill: Fill,
     pub answer: Answer,
     pub looped: Vec<u8>,
+    /// The certificate, or those of a batch end to end.
     pub certificate: Vec<u8>,
     pub state: Vec<i64>,
 }
 
-/// What a call answers, with the rank list afterwards.
+/// What a call answers, with what it was lent afterwards.
 #[derive(Clone, Debug, PartialEq, Eq)]
 pub enum Told {
     Judged(Verdict, [i64; 16]),
     Bounded(Bounded),
+    Batch(Batch, Vec<Verdict>, Vec<i64>),
+    Written(Writing, Vec<u8>),
 }
 
 impl Told {
@@ -120,6 +165,8 @@ impl Told {
         match self {
             Told::Judged(verdict, _) => (verdict.number, verdict.place),
             Told::Bounded(bounded) => (bounded.number, bounded.place),
+            Told::Batch(batch, ..) => (batch.number, batch.place),
+            Told::Written(writing, _) => (writing.number, writing.place),
         }
     }
 }
@@ -132,8 +179,8 @@ impl Subject {
             _ => format!("{}x{}", self.n, self.m),
         };
         let name = format!(
-            "{:?}-{}-{size}-{:?}-{:?}",
-            self.call,
+            "{}-{}-{size}-{:?}-{:?}",
+            self.call.name(),
             self.kind.number(),
             self.fill,
             self.answer
@@ -170,6 +217,22 @@ impl Subject {
             Call::Bound => {
                 Told::Bounded(contender.bound(&self.looped, &self.certificate, &self.state))
             }
+            Call::JudgeAll => {
+                let mut verdicts = vec![Verdict::default(); BATCH];
+                let mut ranks = vec![77; BATCH * self.n];
+                let (looped, records) = (&self.looped, &self.certificate);
+                let batch = contender.judge_all(looped, records, &mut verdicts, &mut ranks);
+                Told::Batch(batch, verdicts, ranks)
+            }
+            Call::Shorten | Call::Lengthen => {
+                let mut room = vec![77; ROOM];
+                let (n, m) = (self.n as u64, self.m as u64);
+                let writing = match self.call {
+                    Call::Shorten => contender.shorten(&self.certificate, n, m, &mut room),
+                    _ => contender.lengthen(&self.certificate, n, m, &mut room),
+                };
+                Told::Written(writing, room)
+            }
         }
     }
 
@@ -196,6 +259,9 @@ impl Subject {
     }
 }
 
+/// Room enough for every ranking, long or short.
+pub const ROOM: usize = 400;
+
 /// Every subject, in the order of the tables.
 pub fn subjects() -> Vec<Subject> {
     let mut subjects = Vec::new();
@@ -205,14 +271,81 @@ pub fn subjects() -> Vec<Subject> {
                 continue;
             }
             for (n, m) in SIZES {
-                for fill in [Fill::Dense, Fill::Sparse] {
+                for &fill in fills(kind, m) {
                     let built = build(kind, n, m, fill);
-                    let subject = |&answer| subject(&built, call, fill, answer);
+                    let subject = |&answer| subject(&built, kind, call, fill, answer);
                     subjects.extend(answers(kind).iter().map(subject));
                 }
             }
         }
     }
+    subjects.extend(moved_subjects());
+    subjects.extend(path_subjects());
+    subjects.extend(batch_subjects());
+    subjects
+}
+
+/// Rankings moved to kind 7, and short ones moved back.
+fn moved_subjects() -> Vec<Subject> {
+    let mut subjects = Vec::new();
+    for (call, kind) in [
+        (Call::Shorten, Kind::Ranking),
+        (Call::Lengthen, Kind::Short),
+    ] {
+        for (n, m) in SIZES {
+            for &fill in fills(Kind::Short, m) {
+                let built = build(kind, n, m, fill);
+                subjects.push(subject(&built, kind, call, fill, Answer::Accepted));
+            }
+        }
+    }
+    subjects
+}
+
+/// 32 certificates at once of each kind, all accepted, each multiplied by factors of its own.
+fn batch_subjects() -> Vec<Subject> {
+    let mut subjects = Vec::new();
+    let random = &mut Random::new(1);
+    for kind in KINDS {
+        for (n, m) in SIZES {
+            let fill = match kind {
+                Kind::Short if m > 1 => Fill::Few,
+                _ => Fill::Dense,
+            };
+            let built = build(kind, n, m, fill);
+            let records: Vec<Vec<u8>> = (0..BATCH)
+                .map(|_| {
+                    let mut pair = built.pair.clone();
+                    scale(&mut pair.certificate, random);
+                    certificate_bytes(&pair, kind)
+                })
+                .collect();
+            subjects.push(Subject {
+                certificate: records.concat(),
+                ..subject(&built, kind, Call::JudgeAll, fill, Answer::Accepted)
+            });
+        }
+    }
+    for ((n, m), paths) in SIZES.into_iter().zip(PATHS) {
+        let built = build_paths(n, paths, m, Fill::Dense);
+        let records: Vec<Vec<u8>> = (0..BATCH)
+            .map(|_| {
+                let mut pair = built.pair.clone();
+                scale_argument(&mut pair.argument, random);
+                pair.certificate_bytes()
+            })
+            .collect();
+        subjects.push(Subject {
+            call: Call::JudgeAll,
+            certificate: records.concat(),
+            ..path_subject(&built, Fill::Dense, Answer::Accepted)
+        });
+    }
+    subjects
+}
+
+fn path_subjects() -> Vec<Subject> {
+    let mut subjects = Vec::new();
     for ((n, m), paths) in SIZES.into_iter().zip(PATHS) {
         for fill in [Fill::Dense, Fill::Sparse] {
             let built = build_paths(n, paths, m, fill);
@@ -303,7 +436,15 @@ fn paths_fit(built: &BuiltPaths, m: usize) -> bool {
         })
 }
 
-fn subject(built: &Built, call: Call, fill: Fill, answer: Answer) -> Subject {
+/// The bytes of a pair's certificate; those of a ranking as a short one, if that is its kind.
+fn certificate_bytes(pair: &Pair, kind: Kind) -> Vec<u8> {
+    match &pair.certificate {
+        Certificate::Ranking(ranking) if kind == Kind::Short => short_bytes(&triples_of(ranking)),
+        _ => pair.certificate_bytes(),
+    }
+}
+
+fn subject(built: &Built, kind: Kind, call: Call, fill: Fill, answer: Answer) -> Subject {
     let mut built = built.clone();
     match answer {
         Answer::Accepted | Answer::Early => {}
@@ -321,19 +462,14 @@ fn subject(built: &Built, call: Call, fill: Fill, answer: Answer) -> Subject {
     }
     Subject {
         call,
-        kind: match pair.certificate {
-            Certificate::Ranking(_) => Kind::Ranking,
-            Certificate::Exclusion(_) => Kind::Exclusion,
-            Certificate::Lasso(_) => Kind::Lasso,
-            Certificate::Settling(_) => Kind::Settling,
-        },
+        kind,
         n: pair.n,
         m: pair.rows.len(),
         paths: 1,
         fill,
         answer,
         looped,
-        certificate: pair.certificate_bytes(),
+        certificate: certificate_bytes(pair, kind),
         state: state_for(pair.n, &pair.certificate),
     }
 }
@@ -352,13 +488,14 @@ fn style(fill: Fill) -> Style {
         entry: 9,
         right: SMALL,
         ends: false,
-        weight: 9,
-        zeros: if fill == Fill::Dense { 0 } else { 9 },
+        weight: if fill == Fill::Few { 0 } else { 9 },
+        zeros: if fill == Fill::Sparse { 9 } else { 0 },
         mirrored: false,
     }
 }
 
-/// An accepted pair in which no weight had to be dropped. A lasso's stem has as many rows as the loop.
+/// An accepted pair in which no weight had to be dropped. A lasso's stem has as many rows as the loop. A short ranking's pair is
+/// that of the ranking which it stands for.
 fn build(kind: Kind, n: usize, m: usize, fill: Fill) -> Built {
     let style = style(fill);
     let candidates = (0..).map(|seed| {
@@ -370,7 +507,7 @@ fn build(kind: Kind, n: usize, m: usize, fill: Fill) -> Built {
             _ => construct::ranking(random, n, m, style),
         }
     });
-    let mut fitting = candidates.filter(|built| fits(built, m));
+    let mut fitting = candidates.filter(|built| fits(built, m, fill));
     let mut built = fitting.next().expect("one of the seeds fits");
     spread(&mut built);
     built
@@ -438,10 +575,13 @@ fn spread_rows(rows: &mut [Row], weights: &[&[i64]]) {
     }
 }
 
-fn fits(built: &Built, m: usize) -> bool {
+fn fits(built: &Built, m: usize, fill: Fill) -> bool {
     let weighty = |list: &[i64]| list.iter().filter(|weight| **weight != 0).count();
     let pivots = &built.pivots;
     match &built.pair.certificate {
+        Certificate::Ranking(ranking) if fill == Fill::Few => {
+            (weighty(&ranking.y), weighty(&ranking.z)) == (1, 1)
+        }
         Certificate::Ranking(ranking) => m == 1 || weighty(&ranking.y) + 1 == m,
         Certificate::Exclusion(exclusion) => {
             exclusion.q == 1 && exclusion.v.iter().all(|v| (1..=9).contains(&v.abs()))
@@ -546,7 +686,7 @@ mod tests {
     fn a_tenth_of_the_rows_have_right_sides_near_an_end() {
         for kind in KINDS {
             for (n, m) in SIZES {
-                for fill in [Fill::Dense, Fill::Sparse] {
+                for &fill in fills(kind, m) {
                     let built = build(kind, n, m, fill);
                     let enough = |rows: &[Row]| {
                         let near = rows.iter().filter(|row| near_an_end(row)).count();

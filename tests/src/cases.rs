@@ -1,7 +1,9 @@
 //! The cases: for each call of the archive, inputs of every kind, valid, damaged, at and past the limits, and with
 //! conditions that just hold, just fail, or fail together. Those with loops of several paths stand in `path_cases`, those with
-//! settlings in `settling_cases`, those with short rankings in `short_cases`.
+//! settlings in `settling_cases`, those with short rankings in `short_cases`, those with several certificates at once in
+//! `batch_cases`.
 
+use crate::batch_cases;
 use crate::construct::{self, Built, Inequality, Style};
 use crate::damage::{any_record, any_values, damage, limits};
 use crate::forms::{bytes_of, certificate_shape, certificate_values, row_values, Pair};
@@ -100,11 +102,18 @@ pub enum Case {
         certificate: Vec<u8>,
         state: Vec<i64>,
     },
+    /// Records laid end to end, with so many verdict places and rank numbers.
+    JudgeAll {
+        loop_bytes: Vec<u8>,
+        records: Vec<u8>,
+        places: usize,
+        numbers: usize,
+    },
 }
 
 /// The case that a generator gives.
 pub fn case(random: &mut Random) -> Case {
-    match random.below(116) {
+    match random.below(123) {
         0..=8 => read_loop(random),
         9..=17 => read_certificate(random),
         18..=26 => write_record(random),
@@ -112,8 +121,9 @@ pub fn case(random: &mut Random) -> Case {
         33..=52 => judge(random),
         53..=68 => bound(random),
         69..=83 => path_cases::case(random),
-        84..=102 => settling_cases::case(random),
-        _ => short_cases::case(random),
+        84..=103 => settling_cases::case(random),
+        104..=116 => short_cases::case(random),
+        _ => batch_cases::case(random),
     }
 }
 
@@ -228,7 +238,7 @@ fn fail_conditions(random: &mut Random, built: &mut Built) {
 }
 
 /// Changes a multiplier, a scale or an entry of the certificate by one, within its range.
-fn change_any_value_by_one(random: &mut Random, pair: &mut Pair) {
+pub(crate) fn change_any_value_by_one(random: &mut Random, pair: &mut Pair) {
     let lists: Vec<&mut Vec<i64>> = match &mut pair.certificate {
         Certificate::Ranking(ranking) => vec![&mut ranking.y, &mut ranking.z],
         Certificate::Exclusion(part) => vec![&mut part.u, &mut part.v, &mut part.w],
@@ -637,8 +647,8 @@ pub(crate) fn bound_at(random: &mut Random, pair: Pair, mut state: Vec<i64>) -> 
     }
 }
 
-/// One more certificate record for a sheet: the pair's own, scaled, another one, or a damaged one.
-fn sheet_record(random: &mut Random, pair: &Pair) -> Vec<u8> {
+/// One more certificate record for a sheet or a batch: the pair's own, scaled, another one, or a damaged one.
+pub(crate) fn sheet_record(random: &mut Random, pair: &Pair) -> Vec<u8> {
     let mut certificate = match random.below(8) {
         0 => any_certificate(random, pair),
         1 => zero_exclusion(random, pair.n),

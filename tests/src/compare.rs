@@ -2,6 +2,7 @@
 //! lent, which is filled with a pattern first and stands between guards.
 
 use crate::cases::{Case, Move, SheetRoom};
+use crate::oracle::batch::{self, Batch};
 use crate::oracle::judging::{self, Bounded, Verdict};
 use crate::oracle::record::{self, Reading, Writing};
 use crate::oracle::{sheet, short, Refusal};
@@ -17,6 +18,7 @@ pub enum Told {
     Verdict(Verdict),
     Verdicts([Verdict; 2]),
     Bounded(Bounded),
+    Batch(Batch),
 }
 
 impl Told {
@@ -33,6 +35,7 @@ impl Told {
                 (verdict.number, verdict.place)
             }
             Told::Bounded(bounded) => (bounded.verdict.number, bounded.verdict.place),
+            Told::Batch(batch) => (batch.number, batch.place),
         };
         Refusal { number, place }
     }
@@ -47,6 +50,7 @@ impl Told {
                 (verdict.number, verdict.record)
             }
             Told::Bounded(bounded) => (bounded.verdict.number, bounded.verdict.record),
+            Told::Batch(batch) => (batch.number, batch.record),
         }
     }
 }
@@ -58,13 +62,18 @@ fn first_refused([first, second]: &[Writing; 2]) -> &Writing {
     }
 }
 
-/// The list that a call was lent, as it is after the call.
+/// What a call was lent, as it is after the call.
 #[derive(Clone, PartialEq, Eq)]
 pub enum Lent {
     Numbers(Lending<i64>),
     Bytes(Lending<u8>),
+    /// A row of verdicts, number by number, and the rank numbers.
+    Row(Lending<i64>, Lending<i64>),
     Nothing,
 }
+
+/// The numbers of a verdict in a row.
+const FIELDS: usize = 7;
 
 /// What a call told and what it did to the list that it was lent.
 #[derive(Clone, PartialEq, Eq)]
@@ -210,6 +219,19 @@ pub fn expected(case: &Case) -> Answer {
             told: Told::Bounded(judging::bound(loop_bytes, certificate, state)),
             lent: Lent::Nothing,
         },
+        Case::JudgeAll {
+            loop_bytes,
+            records,
+            places,
+            numbers,
+        } => row_lent(*places, *numbers, |row, ranks| {
+            let mut verdicts: Vec<Verdict> = row.chunks(FIELDS).map(verdict_of).collect();
+            let told = batch::judge_all(loop_bytes, records, &mut verdicts, ranks);
+            for (fields, verdict) in row.chunks_mut(FIELDS).zip(&verdicts) {
+                fields.copy_from_slice(&fields_of(verdict));
+            }
+            Told::Batch(told)
+        }),
     }
 }
 
@@ -299,6 +321,15 @@ pub fn archive(case: &Case, shift: usize) -> Answer {
             let lent = Lent::Nothing;
             Answer { told, lent }
         }
+        Case::JudgeAll {
+            loop_bytes,
+            records,
+            places,
+            numbers,
+        } => row_lent(*places, *numbers, |row, ranks| {
+            let [looped, records] = unaligned_pair(loop_bytes, records, shift);
+            archive_judges_all(&looped, &records, row, ranks)
+        }),
     }
 }
 
@@ -318,6 +349,51 @@ fn bytes_lent(room: usize, call: impl FnOnce(&mut [u8]) -> Told) -> Answer {
         told,
         lent: Lent::Bytes(lending),
     }
+}
+
+/// A row of so many verdicts and so many rank numbers.
+fn row_lent(
+    places: usize,
+    numbers: usize,
+    call: impl FnOnce(&mut [i64], &mut [i64]) -> Told,
+) -> Answer {
+    let (mut row, mut ranks) = (Lending::new(FIELDS * places), Lending::new(numbers));
+    let told = call(row.list(), ranks.list());
+    Answer {
+        told,
+        lent: Lent::Row(row, ranks),
+    }
+}
+
+/// The verdict that stands in a row, and its numbers there.
+pub fn verdict_of(fields: &[i64]) -> Verdict {
+    Verdict {
+        number: fields[0] as u64,
+        place: fields[1] as u64,
+        record: fields[2] as u64,
+        outcome: fields[3] as u64,
+        start: fields[4],
+        fall: fields[5],
+        grade: fields[6] as u64,
+    }
+}
+
+fn fields_of(verdict: &Verdict) -> [i64; FIELDS] {
+    [
+        verdict.number as i64,
+        verdict.place as i64,
+        verdict.record as i64,
+        verdict.outcome as i64,
+        verdict.start,
+        verdict.fall,
+        verdict.grade as i64,
+    ]
+}
+
+/// The first verdicts of a row, as far as it goes.
+pub fn verdicts_in(row: &Lending<i64>, count: usize) -> Vec<Verdict> {
+    let fields = row.first(FIELDS * count);
+    fields.chunks(FIELDS).map(verdict_of).collect()
 }
 
 /// Bytes enough for every ranking, long or short.
@@ -481,6 +557,28 @@ fn archive_judges(looped: &[u8], certificate: &[u8], rank: &mut [i64]) -> Verdic
     }
 }
 
+fn archive_judges_all(looped: &[u8], records: &[u8], row: &mut [i64], ranks: &mut [i64]) -> Told {
+    // SAFETY: the slices are valid for their lengths and stand apart, and a verdict is as large as seven numbers.
+    let raw = unsafe {
+        raw::cushiedoo_judge_all(
+            looped.as_ptr(),
+            looped.len(),
+            records.as_ptr(),
+            records.len(),
+            row.as_mut_ptr().cast(),
+            row.len() / FIELDS,
+            ranks.as_mut_ptr(),
+            ranks.len(),
+        )
+    };
+    Told::Batch(Batch {
+        number: raw.number,
+        place: raw.place,
+        record: raw.record,
+        count: raw.count,
+    })
+}
+
 fn archive_bounds(looped: &[u8], certificate: &[u8], state: &[i64]) -> Told {
     // SAFETY: the slices are valid for their lengths.
     let raw = unsafe {
@@ -518,6 +616,10 @@ pub fn difference(expected: &Answer, archive: &Answer) -> String {
     let place = match (&expected.lent, &archive.lent) {
         (Lent::Numbers(left), Lent::Numbers(right)) => left.first_difference(right),
         (Lent::Bytes(left), Lent::Bytes(right)) => left.first_difference(right),
+        (Lent::Row(left, ranks), Lent::Row(right, others)) => match left.first_difference(right) {
+            None => ranks.first_difference(others),
+            Some(place) => return format!("the row of verdicts differs first at number {place}"),
+        },
         _ => None,
     };
     format!(

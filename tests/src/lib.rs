@@ -4,11 +4,13 @@
 //! - [`oracle`] is the paper, plainly rendered; it leans on nothing else here.
 //! - [`construct`], [`damage`] and [`cases`] make the inputs from a seed; those with loops of several paths [`path_damage`]
 //!   and [`path_cases`], those with settlings [`settling_cases`], those with short rankings [`short_damage`] and
-//!   [`short_cases`].
+//!   [`short_cases`], those with several certificates at once [`batch_cases`].
 //! - [`compare`] calls the archive, and compares every number told and every entry of every list lent.
-//! - [`tally`] counts what came up ([`right_sides`], [`grades`], [`path_ways`], [`settling_ways`] and [`short_ways`] those of a
-//!   case), and says which quotas are not met.
+//! - [`tally`] counts what came up ([`right_sides`], [`grades`], [`path_ways`], [`settling_ways`], [`short_ways`] and
+//!   [`batch_ways`] those of a case), and says which quotas are not met.
 
+pub mod batch_cases;
+pub mod batch_ways;
 pub mod cases;
 pub mod compare;
 pub mod construct;

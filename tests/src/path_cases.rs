@@ -64,7 +64,7 @@ fn some_sizes(random: &mut Random) -> PathSizes {
 }
 
 /// A loop of several paths and an argument for it, well formed: accepted, or with conditions that fail, or of any values.
-fn some_paths(random: &mut Random) -> PathPair {
+pub(crate) fn some_paths(random: &mut Random) -> PathPair {
     let sizes = some_sizes(random);
     let style = some_style(random);
     let mut built = lexicographic(random, &sizes, style);
@@ -129,7 +129,7 @@ fn fail_a_condition(random: &mut Random, built: &mut BuiltPaths) {
 }
 
 /// Changes a multiplier or a number of a component by one, within its range.
-fn change_any_value_by_one(random: &mut Random, argument: &mut Lexicographic) {
+pub(crate) fn change_any_value_by_one(random: &mut Random, argument: &mut Lexicographic) {
     let mut numbers: Vec<&mut i64> = Vec::new();
     for Component { r, start, fall } in &mut argument.components {
         numbers.extend(r.iter_mut().chain([start, fall]));
@@ -243,7 +243,7 @@ fn judge(random: &mut Random) -> Case {
 }
 
 /// The records of a loop with one path: a loop of kind 1, and a certificate of kinds 2 to 4.
-fn one_path(random: &mut Random) -> (Vec<u8>, Vec<u8>) {
+pub(crate) fn one_path(random: &mut Random) -> (Vec<u8>, Vec<u8>) {
     let kind = some_certificate_kind(random);
     let pair = some_pair(random, kind).pair;
     (pair.loop_bytes(), pair.certificate_bytes())

@@ -109,9 +109,12 @@ fn of_case(case: &Case, record: u64) -> Vec<RightSide> {
             },
             0,
         ) => of_values(*kind, *n, *m, values),
-        (Case::Judge { loop_bytes, .. } | Case::Bound { loop_bytes, .. }, 1) => {
-            of_record(loop_bytes, 0, 0)
-        }
+        (
+            Case::Judge { loop_bytes, .. }
+            | Case::Bound { loop_bytes, .. }
+            | Case::JudgeAll { loop_bytes, .. },
+            1,
+        ) => of_record(loop_bytes, 0, 0),
         (
             Case::Judge {
                 loop_bytes,
@@ -132,8 +135,8 @@ fn of_case(case: &Case, record: u64) -> Vec<RightSide> {
     }
 }
 
-/// The ends of the range near which a right side of the case lies, or a start where a loop has several paths. Of a sheet the
-/// loop alone is looked at.
+/// The ends of the range near which a right side of the case lies, or a start where a loop has several paths. Of a sheet and of
+/// a batch the loop alone is looked at.
 pub fn ends_near(case: &Case) -> Vec<i64> {
     let mut values: Vec<i64> = all_of(case).iter().map(|side| side.value).collect();
     if let Case::Judge {

@@ -57,7 +57,7 @@ fn bound(random: &mut Random) -> Case {
 }
 
 /// A curve's loop with its settling, which may be multiplied by factors, and its exclusion.
-fn some_curve(random: &mut Random) -> (Pair, Vec<u8>) {
+pub(crate) fn some_curve(random: &mut Random) -> (Pair, Vec<u8>) {
     let (n, m) = some_size(random);
     let style = some_style(random);
     let (built, exclusion) = construct::curve(random, n.max(2), m, style);

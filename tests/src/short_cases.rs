@@ -31,14 +31,14 @@ pub fn case(random: &mut Random) -> Case {
 }
 
 /// The ranking of a pair, if that is its certificate.
-fn ranking_of(pair: &Pair) -> Option<&Ranking> {
+pub(crate) fn ranking_of(pair: &Pair) -> Option<&Ranking> {
     match &pair.certificate {
         Certificate::Ranking(ranking) => Some(ranking),
         _ => None,
     }
 }
 
-fn shortened(ranking: &Ranking) -> Vec<u8> {
+pub(crate) fn shortened(ranking: &Ranking) -> Vec<u8> {
     short_bytes(&triples_of(ranking))
 }
 

@@ -16,7 +16,12 @@
 //! Of short rankings: 5 % of the cases with one are accepted by judging or bound; in these and in both conversions each refusal
 //! number 100 times, 15 and 16 as often at the first and at the last of several triples, and as often a round trip from either
 //! kind; and 50 times each way in which a record is refused, none and 64 triples, and each call or loop that doesn't take one.
+//!
+//! Of several certificates at once: in 5 % of the batches a record is accepted; 13, 7 of either room, each refusal of the loop, each
+//! kind that is accepted, no record and 32 records 100 times; 50 times each pair of refusals of the call, each way in which the
+//! last record takes the rest, and how one record's verdict and rank stand after another's; and 20 times each number in a row.
 
+use crate::batch_ways;
 use crate::cases::{Case, Move};
 use crate::compare::{Answer, Lent, Told};
 use crate::construct::places;
@@ -51,9 +56,11 @@ const LEAST_DEEP: u64 = 20;
 const LEAST_SETTLING: u64 = 5;
 /// The fewest accepted in a hundred of the cases with short rankings.
 const LEAST_SHORT: u64 = 5;
+/// The fewest batches in a hundred in which a record is accepted.
+const LEAST_BATCHES: u64 = 5;
 
 /// What must come up, under the names that `Tally::count` gives.
-const QUOTAS: [(&str, &[&str]); 9] = [
+const QUOTAS: [(&str, &[&str]); 10] = [
     ("read_loop", &["kind 1", "1", "2", "3", "4", "5", "6", "7"]),
     (
         "read_certificate",
@@ -140,6 +147,7 @@ const QUOTAS: [(&str, &[&str]); 9] = [
     (short_ways::SHORTEN, &["done"]),
     (short_ways::LENGTHEN, &["done"]),
     (short_ways::BACK, &["done"]),
+    (batch_ways::CALL, &["done"]),
 ];
 
 /// The conditions that fail in a column or a row, and those on right sides.
@@ -276,7 +284,12 @@ impl Tally {
             .iter()
             .any(|line| !line.contains("refused") && line != "line loop");
         let done = answer.told.number_and_record().0 == 0;
-        let accepted = done && (!matches!(case, Case::Sheet { .. }) || accepts_a_line);
+        let batch_names = batch_ways::ways_of(case, answer);
+        let accepted = match case {
+            Case::Sheet { .. } => done && accepts_a_line,
+            Case::JudgeAll { .. } => batch_names.iter().any(|name| name == batch_ways::ACCEPTED),
+            _ => done,
+        };
         let ends = right_sides::ends_near(case);
         self.accepted += u64::from(accepted);
         for (count, end) in self.near_ends.iter_mut().zip(ENDS) {
@@ -307,6 +320,9 @@ impl Tally {
         for way in short_ways::ways_of(case, &answer.told) {
             self.add(call, way);
         }
+        for way in batch_names {
+            self.add(call, way);
+        }
         for line in lines {
             self.add(call, line);
         }
@@ -329,8 +345,9 @@ impl Tally {
         }
     }
 
-    /// The shares of loops with several paths, of settlings and of short rankings: what, how often, of how many, and the least in a hundred.
-    fn shares(&self) -> [(&'static str, u64, u64, u64); 5] {
+    /// The shares of loops with several paths, of settlings, of short rankings and of batches: what, how often, of how many, and
+    /// the least in a hundred.
+    fn shares(&self) -> [(&'static str, u64, u64, u64); 6] {
         let told = |call: &'static str, name: &str| {
             let name = (call, name.to_string());
             self.counts.get(&name).copied().unwrap_or(0)
@@ -365,6 +382,12 @@ impl Tally {
                 short(short_ways::ACCEPTED),
                 short(short_ways::CASE),
                 LEAST_SHORT,
+            ),
+            (
+                batch_ways::ACCEPTED,
+                told(batch_ways::CALL, batch_ways::ACCEPTED),
+                told(batch_ways::CALL, batch_ways::CASE),
+                LEAST_BATCHES,
             ),
         ]
     }
@@ -433,6 +456,9 @@ impl Tally {
         for (call, name, least) in short_ways::quotas(LEAST_FAILING, LEAST_WAY) {
             ask(call, name, least);
         }
+        for (call, name, least) in batch_ways::quotas(LEAST_FAILING, LEAST_WAY) {
+            ask(call, name, least);
+        }
         let mut share = |what: &str, count: u64, all: u64, least: u64| {
             if count * 100 < all * least {
                 unmet.push(format!("{what}: less than {least} %"));
@@ -469,6 +495,7 @@ fn call_name(case: &Case) -> &'static str {
         Case::Sheet { .. } => "sheet",
         Case::Judge { .. } | Case::JudgeBoth { .. } => "judge",
         Case::Bound { .. } => "bound",
+        Case::JudgeAll { .. } => batch_ways::CALL,
     }
 }
 

@@ -52,8 +52,8 @@ pub enum Fails {
 #[must_use]
 #[derive(Clone, Copy, Debug, PartialEq, Eq, Hash)]
 pub struct Refusal {
-    /// The number of the refusal: 1 to 12 without 8, which is no longer given, 14 to 16, or that of a condition that fails,
-    /// 21 to 24, 31, 32, 41 to 46, 51 to 53, 61 to 63.
+    /// The number of the refusal: 1 to 16 without 8, which is no longer given, or that of a condition that fails, 21 to 24,
+    /// 31, 32, 41 to 46, 51 to 53, 61 to 63.
     pub number: u64,
     /// Its place; [`Refusal::place_meaning`] says of what.
     pub place: u64,
@@ -111,6 +111,7 @@ impl Refusal {
             10 => ("state doesn't have n entries", "number of entries"),
             11 => ("lasso state outside the invariant", "always 0"),
             12 => ("value list of the wrong length", "length needed"),
+            13 => ("more than 32 records", "number of records"),
             14 => (
                 "component number that doesn't exist, the first",
                 "its first byte",
@@ -277,6 +278,28 @@ impl fmt::Display for Verdict {
     }
 }
 
+/// The verdict on one record of several, with its rank.
+#[must_use = "the certificate may have been refused"]
+#[derive(Clone, Debug, PartialEq, Eq, Hash)]
+pub struct Judged {
+    /// The verdict that [`judge`](crate::judge) gives for the record.
+    pub verdict: Verdict,
+    /// r of a ranking, a lasso or a settling that is accepted; every other verdict has none.
+    pub rank: Option<Vec<i64>>,
+}
+
+impl Judged {
+    /// A verdict with the n numbers that were its rank list.
+    pub(crate) fn new(verdict: Verdict, rank: &[i64]) -> Judged {
+        let has_rank = matches!(
+            verdict.outcome(),
+            Some(Outcome::Ranking { .. } | Outcome::Lasso { .. } | Outcome::Settling { .. })
+        );
+        let rank = has_rank.then(|| rank.to_vec());
+        Judged { verdict, rank }
+    }
+}
+
 /// An accepted ranking, lasso or settling with the bound at a state.
 #[must_use]
 #[derive(Clone, Copy, Debug, PartialEq, Eq, Hash)]
@@ -365,6 +388,15 @@ impl From<raw::Bounded> for Result<Bounded, Refusal> {
                 outcome: outcome(raw.outcome, raw.start, raw.fall, raw.grade),
                 bound: raw.bound,
             }),
+        }
+    }
+}
+
+impl From<raw::Batch> for Result<usize, Refusal> {
+    fn from(raw: raw::Batch) -> Result<usize, Refusal> {
+        match refusal(raw.number, raw.place, raw.record) {
+            Some(refusal) => Err(refusal),
+            None => Ok(raw.count as usize),
         }
     }
 }

@@ -43,9 +43,11 @@
 //! ```
 
 mod answers;
+mod batch;
 pub mod raw;
 
-pub use answers::{Bounded, Fails, Grade, Outcome, Reading, Record, Refusal, Verdict};
+pub use answers::{Bounded, Fails, Grade, Judged, Outcome, Reading, Record, Refusal, Verdict};
+pub use batch::{judge_all, judge_list, MOST_RECORDS};
 
 /// Reads a loop record (kind 1) into the first places of `values`: its rows, each of n entries of A, n of A' and b.
 pub fn read_loop(bytes: &[u8], values: &mut [i64]) -> Result<Reading, Refusal> {

@@ -22,9 +22,9 @@ pub struct Writing {
     pub written: u64,
 }
 
-/// The answer of judging.
+/// The answer of judging, and one place of a row of verdicts.
 #[repr(C)]
-#[derive(Clone, Copy, Debug, PartialEq, Eq)]
+#[derive(Clone, Copy, Debug, Default, PartialEq, Eq)]
 pub struct Verdict {
     pub number: u64,
     pub place: u64,
@@ -47,6 +47,16 @@ pub struct Bounded {
     pub fall: i64,
     pub grade: u64,
     pub bound: u64,
+}
+
+/// The answer of a batch.
+#[repr(C)]
+#[derive(Clone, Copy, Debug, PartialEq, Eq)]
+pub struct Batch {
+    pub number: u64,
+    pub place: u64,
+    pub record: u64,
+    pub count: u64,
 }
 
 extern "C" {
@@ -109,6 +119,17 @@ extern "C" {
         rank: *mut i64,
         rank_len: usize,
     ) -> Verdict;
+
+    pub fn cushiedoo_judge_all(
+        loop_bytes: *const u8,
+        loop_len: usize,
+        records: *const u8,
+        records_len: usize,
+        verdicts: *mut Verdict,
+        verdicts_len: usize,
+        ranks: *mut i64,
+        ranks_len: usize,
+    ) -> Batch;
 
     pub fn cushiedoo_bound(
         loop_bytes: *const u8,

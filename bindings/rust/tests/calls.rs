@@ -1,8 +1,9 @@
 //! The wrapper's calls on the scope paper's own samples: what they give, what they refuse, and what people read.
 
 use cushiedoo::{
-    bound, judge, lengthen, read_certificate, read_loop, sheet, sheet_text, shorten, write_record,
-    Bounded, Fails, Grade, Outcome, Reading, Record, Refusal, Verdict,
+    bound, judge, judge_all, judge_list, lengthen, raw, read_certificate, read_loop, sheet,
+    sheet_text, shorten, write_record, Bounded, Fails, Grade, Judged, Outcome, Reading, Record,
+    Refusal, Verdict, MOST_RECORDS,
 };
 
 fn record(kind: u64, n: u64, m: u64, values: &[i64]) -> Vec<u8> {
@@ -147,16 +148,7 @@ fn every_number_has_words() {
         refusal.place_meaning() != "unknown"
     };
     let numbers: Vec<u64> = (0..100).filter(|&number| known(number)).collect();
-    let given = [
-        1..=7,
-        9..=12,
-        14..=16,
-        21..=24,
-        31..=32,
-        41..=46,
-        51..=53,
-        61..=63,
-    ];
+    let given = [1..=7, 9..=16, 21..=24, 31..=32, 41..=46, 51..=53, 61..=63];
     let given: Vec<u64> = given.into_iter().flatten().collect();
     assert_eq!(numbers, given);
 }
@@ -450,6 +442,216 @@ fn a_short_ranking_is_neither_read_nor_written() {
     );
     let looped = unwanted(Record::Loop);
     assert_eq!(bound(&two_counters(), &FIRST_SHORT, &[1, 1]), Err(looped));
+}
+
+/// A record that is accepted, with its rank.
+fn ranked(start: i64, fall: i64, rank: &[i64]) -> Judged {
+    Judged {
+        verdict: Verdict::Accepted(Outcome::Ranking { start, fall }),
+        rank: Some(rank.to_vec()),
+    }
+}
+
+fn refused(number: u64, place: u64) -> Judged {
+    Judged {
+        verdict: Verdict::Refused(Refusal {
+            number,
+            place,
+            record: Record::Certificate,
+        }),
+        rank: None,
+    }
+}
+
+/// What [`judge`] says of each record by itself.
+fn one_by_one(looped: &[u8], n: usize, records: &[Vec<u8>]) -> Vec<Judged> {
+    let judged = |record: &Vec<u8>| {
+        let mut rank = vec![i64::MIN; n];
+        let verdict = judge(looped, record, &mut rank);
+        let rank = (rank != vec![i64::MIN; n]).then_some(rank);
+        Judged { verdict, rank }
+    };
+    records.iter().map(judged).collect()
+}
+
+#[test]
+fn a_batch_gives_each_record_its_verdict_and_rank() {
+    let second = record(2, 2, 3, &[1, 0, 0, 0, 1, 0]);
+    let doubled = record(2, 2, 3, &[2, 0, 0, 0, 2, 2]);
+    let other = record(3, 1, 3, &[1, -2, 1, 4]); // for a loop over one variable
+    let records = [first_certificate(), second, doubled, other];
+    let expected = [
+        ranked(2, 1, &[1, -1]),
+        refused(22, 1),
+        ranked(4, 2, &[2, -2]),
+        refused(3, 0),
+    ];
+    assert_eq!(
+        judge_all(&loop_p(), &records.concat()),
+        Ok(expected.to_vec())
+    );
+    assert_eq!(one_by_one(&loop_p(), 2, &records), expected);
+    assert_eq!(judge_list(&loop_p(), &records), Ok(expected.to_vec()));
+}
+
+#[test]
+fn a_batch_has_32_records_at_the_most_and_may_have_none() {
+    let of = |count: usize| judge_all(&loop_p(), &first_certificate().repeat(count));
+    assert_eq!(of(0), Ok(Vec::new()));
+    assert_eq!(
+        of(MOST_RECORDS),
+        Ok(vec![ranked(2, 1, &[1, -1]); MOST_RECORDS])
+    );
+    for count in [33, 40] {
+        let refusal = of(count).expect_err("there are too many");
+        assert_eq!((refusal.number, refusal.place), (13, count as u64));
+        assert_eq!(refusal.record, Record::Neither);
+        assert_eq!(
+            refusal.to_string(),
+            format!("refused 13, place {count} (number of records): more than 32 records")
+        );
+    }
+    let cut = [first_certificate(), first_certificate()].concat();
+    let expected = vec![ranked(2, 1, &[1, -1]), refused(1, 17)];
+    assert_eq!(judge_all(&loop_p(), &cut[..35]), Ok(expected));
+    let looped = judge_all(&loop_p()[..45], &cut).expect_err("the loop ends early");
+    assert_eq!(
+        (looped.number, looped.place, looped.record),
+        (1, 45, Record::Loop)
+    );
+}
+
+#[test]
+fn a_batch_takes_every_kind_with_its_loop() {
+    let argument = counters_argument([0, 1], [1, 1], COUNTERS);
+    let records = [argument.clone(), first_certificate(), argument];
+    let of_paths = judge_all(&two_counters(), &records.concat());
+    assert_eq!(of_paths, Ok(one_by_one(&two_counters(), 2, &records)));
+    let outcomes = of_paths.map(|judged| judged[2].verdict.outcome());
+    assert_eq!(outcomes, Ok(Some(Outcome::Lexicographic)));
+
+    let exclusion = record(3, 2, 5, &[1, -1, -1, 0, -1, 0, -1]);
+    let short = [4, 0, 0, 0, 7, 0, 0, 0].to_vec();
+    let records = [
+        curve_settles(1, 1, 1),
+        exclusion,
+        short,
+        curve_settles(1, 2, 1),
+    ];
+    let judged = judge_all(&curve(), &records.concat());
+    assert_eq!(judged, Ok(one_by_one(&curve(), 2, &records)));
+    let ranks = judged.map(|judged| judged.into_iter().map(|one| one.rank).collect());
+    assert_eq!(ranks, Ok(vec![Some(vec![1, 0]), None, None, None]));
+}
+
+/// The flat call, which lends rooms of its own: what it tells, and what they hold then.
+fn batch_into(records: &[u8], verdicts: &mut [raw::Verdict], ranks: &mut [i64]) -> raw::Batch {
+    let looped = loop_p();
+    // SAFETY: the slices are valid for their lengths, and two of them are borrowed alone.
+    unsafe {
+        raw::cushiedoo_judge_all(
+            looped.as_ptr(),
+            looped.len(),
+            records.as_ptr(),
+            records.len(),
+            verdicts.as_mut_ptr(),
+            verdicts.len(),
+            ranks.as_mut_ptr(),
+            ranks.len(),
+        )
+    }
+}
+
+#[test]
+fn a_batch_without_room_changes_nothing() {
+    let records = first_certificate().repeat(3);
+    let found = raw::Verdict {
+        number: 99,
+        ..raw::Verdict::default()
+    };
+    for (verdicts, numbers, place) in [(2, 5, 3), (2, 6, 3), (3, 5, 6), (3, 0, 6)] {
+        let mut row = vec![found; verdicts];
+        let mut ranks = vec![9; numbers];
+        let told = batch_into(&records, &mut row, &mut ranks);
+        assert_eq!(
+            (told.number, told.place, told.record, told.count),
+            (7, place, 0, 0)
+        );
+        assert_eq!((row, ranks), (vec![found; verdicts], vec![9; numbers]));
+    }
+    let mut row = [found; 4];
+    let mut ranks = [9; 8];
+    let told = batch_into(&records, &mut row, &mut ranks);
+    assert_eq!((told.number, told.count), (0, 3));
+    assert_eq!((row[2].fall, row[3]), (1, found));
+    assert_eq!(ranks, [1, -1, 1, -1, 1, -1, 9, 9]);
+}
+
+#[test]
+fn each_record_of_a_list_has_its_own_verdict() {
+    let good = first_certificate();
+    let with_length = |length: u8| {
+        let mut bytes = first_certificate();
+        bytes[0] = length;
+        bytes
+    };
+    let strays = [
+        Vec::new(),
+        vec![14],
+        good[..4].to_vec(),
+        good[..5].to_vec(),
+        good[..17].to_vec(),
+        [&good[..], &[0]].concat(),
+        [&good[..], &good].concat(),
+        vec![0, 0, 0, 0],
+        with_length(0),
+        with_length(1),
+        with_length(2),
+        with_length(13),
+        with_length(15),
+        with_length(255),
+        vec![255; 18],
+    ];
+    for stray in &strays {
+        let around = [
+            good.clone(),
+            stray.clone(),
+            good.clone(),
+            stray.clone(),
+            stray.clone(),
+        ];
+        let expected = one_by_one(&loop_p(), 2, &around);
+        assert_eq!(
+            judge_list(&loop_p(), &around),
+            Ok(expected.clone()),
+            "{stray:?}"
+        );
+        assert_eq!(expected[2], ranked(2, 1, &[1, -1]));
+        assert_eq!(
+            judge_list(&loop_p(), &around[1..2]),
+            Ok(vec![expected[1].clone()])
+        );
+    }
+    let mut many = vec![good; 40];
+    many.extend(strays);
+    many.extend(vec![record(2, 2, 3, &[2, 0, 0, 0, 2, 2]); 75]);
+    assert_eq!(
+        judge_list(&loop_p(), &many),
+        Ok(one_by_one(&loop_p(), 2, &many))
+    );
+}
+
+#[test]
+fn a_list_is_refused_for_its_loop_alone() {
+    let none: [&[u8]; 0] = [];
+    assert_eq!(judge_list(&loop_p(), &none), Ok(Vec::new()));
+    let stray: [&[u8]; 1] = [&[]];
+    for looped in [&[][..], &first_certificate(), &loop_p()[..45]] {
+        for records in [&none[..], &stray] {
+            let refusal = judge_list(looped, records).expect_err("the loop is none");
+            assert_eq!(refusal.record, Record::Loop);
+        }
+    }
 }
 
 #[test]

@@ -1,6 +1,6 @@
 //! The examples of `docs/FORMAT.md`: their bytes are taken from the page itself, judged, and the page must tell what is answered.
 
-use cushiedoo::{bound, judge, sheet_text};
+use cushiedoo::{bound, judge, judge_all, sheet_text, Judged, Verdict};
 
 const PAGE: &str = include_str!("../../../docs/FORMAT.md");
 
@@ -116,6 +116,90 @@ fn the_table_of_parted_bytes_is_as_printed() {
         let row = PAGE.lines().find(|line| line.starts_with(&told));
         let rest = row.unwrap_or_else(|| panic!("{told}"))[told.len()..].to_string();
         assert!(!rest.starts_with(", `"), "{rest}");
+    }
+}
+
+/// A verdict in the words of the page.
+fn in_words(judged: &Judged) -> String {
+    match judged.verdict {
+        Verdict::Accepted(outcome) => format!("`{outcome}`"),
+        Verdict::Refused(refusal) => format!("`refused {} {}`", refusal.number, refusal.place),
+    }
+}
+
+#[test]
+fn four_certificates_at_once_are_judged_as_the_page_says() {
+    let records = [
+        ("its ranking", record(RANKING, &[])),
+        (
+            "its ranking with 0 as the last of Z",
+            record(RANKING, &[(16, 0)]),
+        ),
+        (
+            "its ranking with every multiplier doubled",
+            record(RANKING, &[(6, 2), (14, 2), (16, 2)]),
+        ),
+        (
+            "the exclusion above, which is for n = 1",
+            record(EXCLUSION, &[]),
+        ),
+    ];
+    let bytes: Vec<u8> = records
+        .iter()
+        .flat_map(|(_, bytes)| bytes.clone())
+        .collect();
+    assert!(PAGE.contains(&format!("Four certificates for P, {} bytes", bytes.len())));
+    let judged = judge_all(&record(P, &[]), &bytes).expect("P is a loop");
+    assert_eq!(judged.len(), records.len());
+    for ((what, _), one) in records.iter().zip(&judged) {
+        let ranks = match &one.rank {
+            Some(rank) => format!("{}, {}", rank[0], rank[1]),
+            None => "as found".to_string(),
+        };
+        let row = format!("| {what} | {} | {ranks} |", in_words(one));
+        assert!(PAGE.lines().any(|line| line == row), "{row}");
+    }
+}
+
+#[test]
+fn the_table_of_several_at_once_is_as_answered() {
+    let ranking = record(RANKING, &[]);
+    let longer = record(RANKING, &[(0, 15)]);
+    let cases = [
+        ("none", Vec::new()),
+        ("its ranking, 32 times", ranking.repeat(32)),
+        ("its ranking, 33 times", ranking.repeat(33)),
+        ("its ranking, 40 times", ranking.repeat(40)),
+        (
+            "its ranking, 32 times, and a newline, `0a`",
+            [ranking.repeat(32), vec![0x0a]].concat(),
+        ),
+        (
+            "its ranking, then with the last byte left out",
+            [&ranking[..], &ranking[..17]].concat(),
+        ),
+        (
+            "its ranking, `00 00 00 00`, its ranking",
+            [&ranking[..], &[0; 4], &ranking].concat(),
+        ),
+        (
+            "its ranking with L = 15 in place of 14, then its ranking",
+            [&longer[..], &ranking].concat(),
+        ),
+    ];
+    for (what, records) in cases {
+        let answer = match judge_all(&record(P, &[]), &records) {
+            Err(refusal) => format!("{} at {}", refusal.number, refusal.place),
+            Ok(judged) => match judged.len() {
+                count @ (0 | 32) => format!("count {count}"),
+                count => {
+                    let verdicts: Vec<String> = judged.iter().map(in_words).collect();
+                    format!("count {count}: {}", verdicts.join(", "))
+                }
+            },
+        };
+        let row = format!("| {what} | {answer} |");
+        assert!(PAGE.lines().any(|line| line == row), "{row}");
     }
 }
 

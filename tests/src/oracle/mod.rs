@@ -4,6 +4,7 @@
 //! It is made to be read beside the paper, not to be fast: records are read into lists, sums are taken in 128 bits, and
 //! each order of refusals is a function whose lines follow the paper's sentence. It knows nothing of the archive.
 
+pub mod batch;
 pub mod conditions;
 pub mod judging;
 pub mod layout;
@@ -14,6 +15,8 @@ pub mod settling;
 pub mod sheet;
 pub mod short;
 
+#[cfg(test)]
+mod batch_samples;
 #[cfg(test)]
 mod path_samples;
 #[cfg(test)]
