@@ -199,15 +199,3 @@ pub fn judge_sound(
         _ => refused(2, 4, 4),
     }
 }
-
-// Judges a certificate's bytes for a loop's bytes.
-pub fn judge(loopbytes: &[u8], certificate: &[u8], rank: &mut [i64]) -> Verdict
-    ensures { λ r. ⌜ r ≡ judges (judge-of (now (loopbytes .entry)) (now (certificate .entry)) (now (rank .entry))) ⌝ }
-    ensures { λ _. ⌜ now (rank .exit) ≡ rank-after (judge-of (now (loopbytes .entry)) (now (certificate .entry)) (now (rank .entry))) (now (rank .entry)) ⌝ }
-{
-    let said = record_check::check_loop(loopbytes);
-    if said.number != 0 {
-        return refused(1, said.number, said.place);
-    }
-    judge_sound(loopbytes, said.n, said.m, certificate, rank)
-}
