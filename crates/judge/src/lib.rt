@@ -1,5 +1,5 @@
-// Judge: whether a certificate's bytes prove what they claim of a loop's bytes. Every input has an answer; a refusal changes nothing
-// that was lent.
+// Certificates of kinds 2 to 4 for a loop of kind 1 that has been checked: whether their bytes prove what they claim of it. A refusal changes
+// nothing that was lent.
 ghost use mathlib.Core.Path.{_≡_};
 ghost use lib.IntN.{ℤ};
 ghost use mathlib.Core.List.{List};

@@ -1,4 +1,4 @@
-// Bound: how many steps a loop can take from a state, by a certificate that has a rank. Every input has an answer.
+// How many steps a loop of kind 1 that has been checked can take from a state, by a certificate of kind 2 or 4.
 ghost use mathlib.Core.Path.{_≡_};
 ghost use mathlib.Core.Bool.{cond};
 ghost use Prim.Native.Nat.{_+_, _/_, _<_, _≤_};
