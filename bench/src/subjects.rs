@@ -145,6 +145,7 @@ pub struct Subject {
     pub paths: usize,
     pub fill: Fill,
     pub answer: Answer,
+    /// The loop; a ranking is moved without it.
     pub looped: Vec<u8>,
     /// The certificate, or those of a batch end to end.
     pub certificate: Vec<u8>,
@@ -295,7 +296,10 @@ fn moved_subjects() -> Vec<Subject> {
         for (n, m) in SIZES {
             for &fill in fills(Kind::Short, m) {
                 let built = build(kind, n, m, fill);
-                subjects.push(subject(&built, kind, call, fill, Answer::Accepted));
+                subjects.push(Subject {
+                    looped: Vec::new(),
+                    ..subject(&built, kind, call, fill, Answer::Accepted)
+                });
             }
         }
     }
