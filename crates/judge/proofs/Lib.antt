@@ -7,4 +7,3 @@ pub mod JudgedKinds
 pub mod Entered
 pub mod Framing
 pub mod ByKind
-pub mod OneAnswer

@@ -1,5 +1,5 @@
-// Judge: whether a certificate's bytes prove what they claim of a loop's bytes. Every input has an answer; a refusal changes nothing
-// that was lent.
+// Certificates of kinds 2 to 4 for a loop of kind 1 that has been checked: whether their bytes prove what they claim of it. A refusal changes
+// nothing that was lent.
 ghost use mathlib.Core.Path.{_≡_};
 ghost use lib.IntN.{ℤ};
 ghost use mathlib.Core.List.{List};
@@ -198,16 +198,4 @@ pub fn judge_sound(
         4 => by_lasso(loopbytes, n, m, certificate, rank),
         _ => refused(2, 4, 4),
     }
-}
-
-// Judges a certificate's bytes for a loop's bytes.
-pub fn judge(loopbytes: &[u8], certificate: &[u8], rank: &mut [i64]) -> Verdict
-    ensures { λ r. ⌜ r ≡ judges (judge-of (now (loopbytes .entry)) (now (certificate .entry)) (now (rank .entry))) ⌝ }
-    ensures { λ _. ⌜ now (rank .exit) ≡ rank-after (judge-of (now (loopbytes .entry)) (now (certificate .entry)) (now (rank .entry))) (now (rank .entry)) ⌝ }
-{
-    let said = record_check::check_loop(loopbytes);
-    if said.number != 0 {
-        return refused(1, said.number, said.place);
-    }
-    judge_sound(loopbytes, said.n, said.m, certificate, rank)
 }

@@ -3,4 +3,3 @@ pub mod BoundingWays
 pub mod BoundedKinds
 pub mod RankNeeds
 pub mod ByKind
-pub mod OneAnswer

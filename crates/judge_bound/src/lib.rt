@@ -1,4 +1,4 @@
-// Bound: how many steps a loop can take from a state, by a certificate that has a rank. Every input has an answer.
+// How many steps a loop of kind 1 that has been checked can take from a state, by a certificate of kind 2 or 4.
 ghost use mathlib.Core.Path.{_≡_};
 ghost use mathlib.Core.Bool.{cond};
 ghost use Prim.Native.Nat.{_+_, _/_, _<_, _≤_};
@@ -180,31 +180,4 @@ pub fn by_lasso(loopbytes: &[u8], n: usize, m: usize, certificate: &[u8], state:
         return refused(0, fault.number, fault.place);
     }
     lasso_bound(loopbytes, n, m, certificate, said.ms, state)
-}
-
-// A certificate and a state for a loop record that has been checked.
-fn bound_sound(loopbytes: &[u8], n: usize, m: usize, certificate: &[u8], state: &[i64]) -> Bounded
-    requires { ⌜ LoopSound (now loopbytes) n m ⌝ }
-    ensures { λ r. ⌜ r ≡ bounds (bound-of (now (loopbytes .entry)) (now (certificate .entry)) (now (state .entry))) ⌝ }
-{
-    let head = record_check::frame(certificate);
-    if head.number != 0 {
-        return refused(2, head.number, head.place);
-    }
-    match endian::u16_at(certificate, 4) {
-        2 => by_ranking(loopbytes, n, m, certificate, state),
-        4 => by_lasso(loopbytes, n, m, certificate, state),
-        _ => refused(2, 4, 4),
-    }
-}
-
-// The bound on steps from a state, by a certificate's bytes for a loop's bytes.
-pub fn bound(loopbytes: &[u8], certificate: &[u8], state: &[i64]) -> Bounded
-    ensures { λ r. ⌜ r ≡ bounds (bound-of (now (loopbytes .entry)) (now (certificate .entry)) (now (state .entry))) ⌝ }
-{
-    let said = record_check::check_loop(loopbytes);
-    if said.number != 0 {
-        return refused(1, said.number, said.place);
-    }
-    bound_sound(loopbytes, said.n, said.m, certificate, state)
 }

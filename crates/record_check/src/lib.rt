@@ -1,5 +1,6 @@
 // Whether bytes are a sound record: 01's "Order for a record" without a list to fill. A record is visited once and never copied.
 ghost use mathlib.Core.Path.{_≡_};
+ghost use mathlib.Core.Bool.{true, false};
 ghost use mathlib.Core.List.{[]};
 ghost use Rattle.endian.specs.Numbers.{littleAt};
 ghost use Rattle.refusal.specs.Tests.{first};
@@ -149,7 +150,7 @@ pub fn lasso_record(bytes: &[u8], n: usize, m: usize) -> Checked
     )
 }
 
-// ---- the two checks
+// ---- the checks
 
 // Whether bytes are a sound loop record.
 pub fn check_loop(bytes: &[u8]) -> Checked
@@ -197,4 +198,21 @@ pub fn check_certificate(bytes: &[u8], n: usize, m: usize, wanted: Wanted) -> Ch
         4 => lasso_record(bytes, n, m),
         _ => refused(4, 4),
     }
+}
+
+// The same where kind 2 alone is wanted.
+pub fn check_ranking(bytes: &[u8], n: usize, m: usize) -> Checked
+    ensures { λ r. ⌜ r ≡ checks (certificate-check (record { ranking = true; exclusion = false; lasso = false }) (now (bytes .entry)) n m) ⌝ }
+{
+    let head = frame(bytes);
+    if head.number != 0 {
+        return refused(head.number, head.place);
+    }
+    if endian::u16_at(bytes, 4) != 2 {
+        return refused(4, 4);
+    }
+    if !record_faults::arguments_fit(n, m) {
+        return refused(5, 0);
+    }
+    ranking_record(bytes, n, m)
 }

@@ -8,7 +8,6 @@ ghost use Rattle.record_short.specs.Conversions.{triples-needed, short-bytes};
 ghost use Rattle.record_short.specs.Conversions.{shortens, shortened-room, lengthens, lengthened-room};
 ghost use Rattle.record_short.specs.ShortRecords.{triples-in, long-bytes};
 ghost use Rattle.record_short_write.specs.Rooms.{refusal, with-triple, with-triples, listed, with-row, with-rows, Lengthens, Lists};
-use record::Wanted;
 use record::Writing;
 
 fn refused(number: usize, place: usize) -> Writing
@@ -155,12 +154,7 @@ pub fn shorten(bytes: &[u8], n: usize, m: usize, room: &mut [u8]) -> Writing
     ensures { λ r. ⌜ r ≡ shortens (now (bytes .entry)) n m (now (room .entry)) ⌝ }
     ensures { λ r. ⌜ now (room .exit) ≡ shortened-room (now (bytes .entry)) n m (now (room .entry)) ⌝ }
 {
-    let wanted = Wanted {
-        ranking: true,
-        exclusion: false,
-        lasso: false,
-    };
-    let found = record_check::check_certificate(bytes, n, m, wanted);
+    let found = record_check::check_ranking(bytes, n, m);
     if found.number != 0 {
         return refused(found.number, found.place);
     }

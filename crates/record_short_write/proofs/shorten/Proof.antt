@@ -18,7 +18,7 @@ lists : (c : tie.Else1) → Lists (start c .args .m) (start c .args .bytes .now)
 lists c =
     let found = c .before .before in
     let a = start c .args in
-    found-lists (a .bytes .now) (a .n) (a .m) (a .room .now) (found .check-certificate .result) (found .check-certificate .ensures) (c .if1 .left)
+    found-lists (a .bytes .now) (a .n) (a .m) (a .room .now) (found .check-ranking .result) (found .check-ranking .ensures) (c .if1 .left)
 
 few : (c : tie.After-rows-counted) → c .rows-counted .result ≤ 64
 unfolding triples-needed
@@ -26,8 +26,8 @@ few c =
     let a = start (c .before) .args in
     omega (arith, c .rows-counted .ensures, lists (c .before) .few-rows, rows-few (a .m) (a .bytes .now) (a .m))
 
-check-certificate-requires : tie.Need-check-certificate-requires
-check-certificate-requires c κs = search needs
+check-ranking-requires : tie.Need-check-ranking-requires
+check-ranking-requires c κs = search needs
 
 refused-requires : tie.Need-refused-requires
 refused-requires c κs = search needs
@@ -36,7 +36,7 @@ returns : tie.Need-returns
 returns c =
     let found = c .before .before .before in
     let a = found .before .before .before .args in
-    let way = unsound-long (a .bytes .now) (a .n) (a .m) (a .room .now) (found .check-certificate .result) (found .check-certificate .ensures) (c .before .if1 .taken) in
+    let way = unsound-long (a .bytes .now) (a .n) (a .m) (a .room .now) (found .check-ranking .result) (found .check-ranking .ensures) (c .before .if1 .taken) in
     (c .refused .ensures ∙ way .0, way .1)
 
 rows-counted-requires : tie.Need-rows-counted-requires
@@ -57,7 +57,7 @@ returns-2 c =
     let right = rows .before in
     let found = right .before .before in
     let a = start right .args in
-    let way = short-refused (a .bytes .now) (a .n) (a .m) (a .room .now) (found .check-certificate .result) (found .check-certificate .ensures) (right .if1 .left)
+    let way = short-refused (a .bytes .now) (a .n) (a .m) (a .room .now) (found .check-ranking .result) (found .check-ranking .ensures) (right .if1 .left)
     (rows .rows-counted .result) (rows .rows-counted .ensures) (c .before .if2 .taken) in
     (c .refused2 .ensures ∙ way .0, way .1)
 
@@ -77,14 +77,14 @@ returns-3 c =
     let right = rows .before in
     let found = right .before .before in
     let a = start right .args in
-    short-written (a .bytes .now) (a .n) (a .m) (a .room .now) (found .check-certificate .result) (found .check-certificate .ensures) (right .if1 .left)
+    short-written (a .bytes .now) (a .n) (a .m) (a .room .now) (found .check-ranking .result) (found .check-ranking .ensures) (right .if1 .left)
     (rows .rows-counted .result) (rows .rows-counted .ensures) (enough .if2 .left) _ (into .shorten-into .ensures)
 
 pub shorten-spec : {M : Type 1} → statement M
 shorten-spec =
     tie.close
     (tie.spec
-    check-certificate-requires
+    check-ranking-requires
     refused-requires
     returns
     rows-counted-requires
