@@ -121,7 +121,7 @@ fn report_times(options: &Options, subjects: Vec<Subject>) {
 
 fn run() -> Result<(), String> {
     let (options, alone) = options()?;
-    let mut subjects = subjects();
+    let mut subjects = subjects(&alone.case);
     if let Mode::Case = options.mode {
         return run_alone(&subjects, &alone);
     }

@@ -145,6 +145,7 @@ pub struct Subject {
     pub paths: usize,
     pub fill: Fill,
     pub answer: Answer,
+    /// The loop; a ranking is moved without it.
     pub looped: Vec<u8>,
     /// The certificate, or those of a batch end to end.
     pub certificate: Vec<u8>,
@@ -175,8 +176,8 @@ impl Subject {
     /// A name by which a subject is chosen, such as `judge-2-16x64-dense-accepted` or `judge-6-16x8x64-dense-last`.
     pub fn name(&self) -> String {
         let size = match self.kind {
-            Kind::Lexicographic => format!("{}x{}x{}", self.n, self.paths, self.m),
-            _ => format!("{}x{}", self.n, self.m),
+            Kind::Lexicographic => paths_size_name(self.n, self.paths, self.m),
+            _ => size_name(self.n, self.m),
         };
         let name = format!(
             "{}-{}-{size}-{:?}-{:?}",
@@ -262,8 +263,22 @@ impl Subject {
 /// Room enough for every ranking, long or short.
 pub const ROOM: usize = 400;
 
-/// Every subject, in the order of the tables.
-pub fn subjects() -> Vec<Subject> {
+/// Whether the subject of this name is of this call, kind and size. Without a name every subject is.
+fn is_of(name: &str, call: Call, kind: Kind, size: &str) -> bool {
+    let front = format!("{}-{}-{size}-", call.name(), kind.number());
+    name.is_empty() || name.starts_with(&front)
+}
+
+fn size_name(n: usize, m: usize) -> String {
+    format!("{n}x{m}")
+}
+
+fn paths_size_name(n: usize, paths: usize, m: usize) -> String {
+    format!("{n}x{paths}x{m}")
+}
+
+/// Every subject, in the order of the tables; with a name, those of its call, kind and size alone.
+pub fn subjects(name: &str) -> Vec<Subject> {
     let mut subjects = Vec::new();
     for call in [Call::Judge, Call::Bound] {
         for kind in KINDS {
@@ -271,6 +286,9 @@ pub fn subjects() -> Vec<Subject> {
                 continue;
             }
             for (n, m) in SIZES {
+                if !is_of(name, call, kind, &size_name(n, m)) {
+                    continue;
+                }
                 for &fill in fills(kind, m) {
                     let built = build(kind, n, m, fill);
                     let subject = |&answer| subject(&built, kind, call, fill, answer);
@@ -279,23 +297,29 @@ pub fn subjects() -> Vec<Subject> {
             }
         }
     }
-    subjects.extend(moved_subjects());
-    subjects.extend(path_subjects());
-    subjects.extend(batch_subjects());
+    subjects.extend(moved_subjects(name));
+    subjects.extend(path_subjects(name));
+    subjects.extend(batch_subjects(name));
     subjects
 }
 
 /// Rankings moved to kind 7, and short ones moved back.
-fn moved_subjects() -> Vec<Subject> {
+fn moved_subjects(name: &str) -> Vec<Subject> {
     let mut subjects = Vec::new();
     for (call, kind) in [
         (Call::Shorten, Kind::Ranking),
         (Call::Lengthen, Kind::Short),
     ] {
         for (n, m) in SIZES {
+            if !is_of(name, call, kind, &size_name(n, m)) {
+                continue;
+            }
             for &fill in fills(Kind::Short, m) {
                 let built = build(kind, n, m, fill);
-                subjects.push(subject(&built, kind, call, fill, Answer::Accepted));
+                subjects.push(Subject {
+                    looped: Vec::new(),
+                    ..subject(&built, kind, call, fill, Answer::Accepted)
+                });
             }
         }
     }
@@ -303,11 +327,14 @@ fn moved_subjects() -> Vec<Subject> {
 }
 
 /// 32 certificates at once of each kind, all accepted, each multiplied by factors of its own.
-fn batch_subjects() -> Vec<Subject> {
+fn batch_subjects(name: &str) -> Vec<Subject> {
     let mut subjects = Vec::new();
-    let random = &mut Random::new(1);
     for kind in KINDS {
         for (n, m) in SIZES {
+            if !is_of(name, Call::JudgeAll, kind, &size_name(n, m)) {
+                continue;
+            }
+            let random = &mut Random::new(1);
             let fill = match kind {
                 Kind::Short if m > 1 => Fill::Few,
                 _ => Fill::Dense,
@@ -327,6 +354,11 @@ fn batch_subjects() -> Vec<Subject> {
         }
     }
     for ((n, m), paths) in SIZES.into_iter().zip(PATHS) {
+        let size = paths_size_name(n, paths, m);
+        if !is_of(name, Call::JudgeAll, Kind::Lexicographic, &size) {
+            continue;
+        }
+        let random = &mut Random::new(1);
         let built = build_paths(n, paths, m, Fill::Dense);
         let records: Vec<Vec<u8>> = (0..BATCH)
             .map(|_| {
@@ -344,9 +376,13 @@ fn batch_subjects() -> Vec<Subject> {
     subjects
 }
 
-fn path_subjects() -> Vec<Subject> {
+fn path_subjects(name: &str) -> Vec<Subject> {
     let mut subjects = Vec::new();
     for ((n, m), paths) in SIZES.into_iter().zip(PATHS) {
+        let size = paths_size_name(n, paths, m);
+        if !is_of(name, Call::Judge, Kind::Lexicographic, &size) {
+            continue;
+        }
         for fill in [Fill::Dense, Fill::Sparse] {
             let built = build_paths(n, paths, m, fill);
             let subject = |answer| path_subject(&built, fill, answer);
