@@ -8,6 +8,7 @@ ghost use mathlib.Core.Path.{_≡_};
 ghost use lib.ListN.{length, take, drop};
 ghost use Rattle.refusal.specs.Faults.{fault-of};
 ghost use Rattle.refusal.specs.Tests.{done};
+ghost use Rattle.judge.specs.SoundPairs.{LoopSound};
 ghost use Rattle.verdict_short.specs.Answers.{answered, rank-answered};
 ghost use Rattle.verdict_batch.specs.Batches.{loop-told, variables, stretch, with-stretch, batch-of, batch-answers};
 
@@ -75,6 +76,33 @@ pub fn enter(loopbytes: &[u8], bytes: &[u8], places: usize, numbers: usize) -> B
 
 // ---- one record
 
+// Judges a certificate for a loop record of kind 1 that has been checked, as `judge_by_kind` does: a function with two callers would no longer be put
+// in place, and single judging would lose what it costs to call it (`docs/PERFORMANCE.md`, "A batch").
+fn judge_certificate(
+    loopbytes: &[u8],
+    n: usize,
+    m: usize,
+    certificate: &[u8],
+    rank: &mut [i64],
+) -> Verdict
+    requires { ⌜ LoopSound (now loopbytes) n m ⌝ }
+    ensures { λ r. ⌜ (r ≡ answered (now (loopbytes .entry)) (now (certificate .entry)) (now (rank .entry)))
+        × (now (rank .exit) ≡ rank-answered (now (loopbytes .entry)) (now (certificate .entry)) (now (rank .entry))) ⌝ }
+{
+    let head = record_check::frame(certificate);
+    if head.number != 0 {
+        return judge::refused(2, head.number, head.place);
+    }
+    match endian::u16_at(certificate, 4) {
+        2 => judge::by_ranking(&loopbytes[..], n, m, &certificate[..], rank),
+        3 => judge::by_exclusion(&loopbytes[..], n, m, &certificate[..]),
+        4 => judge::by_lasso(&loopbytes[..], n, m, &certificate[..], rank),
+        7 => judge_short::by_short(&loopbytes[..], n, m, &certificate[..], rank),
+        8 => judge_by_kind::settling_sound(&loopbytes[..], n, m, &certificate[..], rank),
+        _ => judge::refused(2, 4, 4),
+    }
+}
+
 // Judges the record between two places, with stretch i of the rank numbers, for a loop that has been checked.
 pub fn judge_part(
     loopbytes: &[u8],
@@ -99,5 +127,5 @@ pub fn judge_part(
     let n = endian::u16_at(loopbytes, 6);
     let m = endian::u16_at(loopbytes, 8);
     let at = n * i;
-    judge_by_kind::judge_certificate(loopbytes, n, m, certificate, &mut ranks[at..at + n])
+    judge_certificate(loopbytes, n, m, certificate, &mut ranks[at..at + n])
 }

@@ -55,7 +55,7 @@ fn settling_verdict(shown: Ranked) -> Verdict
 }
 
 // A certificate of kind 8, for a loop record that has been checked.
-fn settling_sound(
+pub fn settling_sound(
     loopbytes: &[u8],
     n: usize,
     m: usize,
@@ -77,7 +77,7 @@ fn settling_sound(
 
 // Judges a certificate for a loop record that has been checked: its frame is the same for every kind, and its kind decides the rest. Slices are
 // handed on as `[..]`, in two parts: a copy of both at once would wait for the caller's stores.
-pub fn judge_certificate(
+fn judge_certificate(
     loopbytes: &[u8],
     n: usize,
     m: usize,
