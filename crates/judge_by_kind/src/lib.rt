@@ -75,7 +75,8 @@ fn settling_sound(
     settling_verdict(judge_settling::settling(loopbytes, judge::FIRST_ROW, n, m, certificate, rank))
 }
 
-// Judges a certificate for a loop record that has been checked: its frame is the same for every kind, and its kind decides the rest.
+// Judges a certificate for a loop record that has been checked: its frame is the same for every kind, and its kind decides the rest. Slices are
+// handed on as `[..]`, in two parts: a copy of both at once would wait for the caller's stores.
 pub fn judge_certificate(
     loopbytes: &[u8],
     n: usize,
@@ -92,11 +93,11 @@ pub fn judge_certificate(
         return judge::refused(2, head.number, head.place);
     }
     match endian::u16_at(certificate, 4) {
-        2 => judge::by_ranking(loopbytes, n, m, certificate, rank),
-        3 => judge::by_exclusion(loopbytes, n, m, certificate),
-        4 => judge::by_lasso(loopbytes, n, m, certificate, rank),
-        7 => judge_short::by_short(loopbytes, n, m, certificate, rank),
-        8 => settling_sound(loopbytes, n, m, certificate, rank),
+        2 => judge::by_ranking(&loopbytes[..], n, m, &certificate[..], rank),
+        3 => judge::by_exclusion(&loopbytes[..], n, m, &certificate[..]),
+        4 => judge::by_lasso(&loopbytes[..], n, m, &certificate[..], rank),
+        7 => judge_short::by_short(&loopbytes[..], n, m, &certificate[..], rank),
+        8 => settling_sound(&loopbytes[..], n, m, &certificate[..], rank),
         _ => judge::refused(2, 4, 4),
     }
 }
