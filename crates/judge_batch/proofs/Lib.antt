@@ -1,3 +1,4 @@
 pub mod LoopsChecked
 pub mod BatchWays
 pub mod PartWays
+pub mod FlatWays

@@ -3,6 +3,7 @@
 use refusal::Fault;
 use verdict::Verdict;
 use verdict_batch::Batched;
+use verdict_flat::FlatVerdict;
 ghost use Prim.Native.Nat.{_+_, _*_, _-_, _≤_};
 ghost use mathlib.Core.Path.{_≡_};
 ghost use lib.ListN.{length, take, drop};
@@ -10,6 +11,7 @@ ghost use Rattle.refusal.specs.Faults.{fault-of};
 ghost use Rattle.refusal.specs.Tests.{done};
 ghost use Rattle.judge.specs.SoundPairs.{LoopSound};
 ghost use Rattle.verdict_short.specs.Answers.{answered, rank-answered};
+ghost use Rattle.verdict_flat.specs.FlatVerdicts.{flat-verdict};
 ghost use Rattle.verdict_batch.specs.Batches.{loop-told, variables, stretch, with-stretch, batch-of, batch-answers};
 
 // ---- the refusals
@@ -76,34 +78,91 @@ pub fn enter(loopbytes: &[u8], bytes: &[u8], places: usize, numbers: usize) -> B
 
 // ---- one record
 
-// Judges a certificate for a loop record of kind 1 that has been checked, as `judge_by_kind` does: a function with two callers would no longer be put
-// in place, and single judging would lose what it costs to call it (`docs/PERFORMANCE.md`, "A batch").
-fn judge_certificate(
+// Judges a certificate for a loop record of kind 1 that has been checked, as `judge_by_kind` does. Each kind's verdict is told in numbers by itself:
+// put together first, verdicts would lie in memory, and be read before they are written through (`docs/PERFORMANCE.md`, "A batch").
+fn flat_certificate(
     loopbytes: &[u8],
     n: usize,
     m: usize,
     certificate: &[u8],
     rank: &mut [i64],
-) -> Verdict
+) -> FlatVerdict
     requires { ⌜ LoopSound (now loopbytes) n m ⌝ }
-    ensures { λ r. ⌜ (r ≡ answered (now (loopbytes .entry)) (now (certificate .entry)) (now (rank .entry)))
+    ensures { λ r. ⌜ (r ≡ flat-verdict (answered (now (loopbytes .entry)) (now (certificate .entry)) (now (rank .entry))))
         × (now (rank .exit) ≡ rank-answered (now (loopbytes .entry)) (now (certificate .entry)) (now (rank .entry))) ⌝ }
 {
     let head = record_check::frame(certificate);
     if head.number != 0 {
-        return judge::refused(2, head.number, head.place);
+        return verdict_flat::flat_verdict(judge::refused(2, head.number, head.place));
     }
     match endian::u16_at(certificate, 4) {
-        2 => judge::by_ranking(&loopbytes[..], n, m, &certificate[..], rank),
-        3 => judge::by_exclusion(&loopbytes[..], n, m, &certificate[..]),
-        4 => judge::by_lasso(&loopbytes[..], n, m, &certificate[..], rank),
-        7 => judge_short::by_short(&loopbytes[..], n, m, &certificate[..], rank),
-        8 => judge_by_kind::settling_sound(&loopbytes[..], n, m, &certificate[..], rank),
-        _ => judge::refused(2, 4, 4),
+        2 => verdict_flat::flat_verdict(judge::by_ranking(
+            &loopbytes[..],
+            n,
+            m,
+            &certificate[..],
+            rank,
+        )),
+        3 => verdict_flat::flat_verdict(judge::by_exclusion(
+            &loopbytes[..],
+            n,
+            m,
+            &certificate[..],
+        )),
+        4 => verdict_flat::flat_verdict(judge::by_lasso(
+            &loopbytes[..],
+            n,
+            m,
+            &certificate[..],
+            rank,
+        )),
+        7 => verdict_flat::flat_verdict(judge_short::by_short(
+            &loopbytes[..],
+            n,
+            m,
+            &certificate[..],
+            rank,
+        )),
+        8 => verdict_flat::flat_verdict(judge_by_kind::settling_sound(
+            &loopbytes[..],
+            n,
+            m,
+            &certificate[..],
+            rank,
+        )),
+        _ => verdict_flat::flat_verdict(judge::refused(2, 4, 4)),
     }
 }
 
-// Judges the record between two places, with stretch i of the rank numbers, for a loop that has been checked.
+// Judges the record between two places, with stretch i of the rank numbers, for a loop that has been checked, and tells the verdict in numbers.
+pub fn flat_part(
+    loopbytes: &[u8],
+    bytes: &[u8],
+    from: usize,
+    end: usize,
+    i: usize,
+    ranks: &mut [i64],
+) -> FlatVerdict
+    requires { ⌜ loop-told (now loopbytes) ≡ done ⌝ }
+    requires { ⌜ (from ≤ end) × (end ≤ length (now bytes)) ⌝ }
+    requires { ⌜ variables (now loopbytes) * i + variables (now loopbytes) ≤ length (now ranks) ⌝ }
+    ensures { λ r. ⌜ (r ≡ flat-verdict (answered (now (loopbytes .entry)) (take (end - from) (drop from (now (bytes .entry))))
+        (stretch (variables (now (loopbytes .entry))) i (now (ranks .entry)))))
+        × (now (ranks .exit) ≡ with-stretch (variables (now (loopbytes .entry))) i
+        (rank-answered (now (loopbytes .entry)) (take (end - from) (drop from (now (bytes .entry)))) (stretch (variables (now (loopbytes .entry))) i (now (ranks .entry))))
+        (now (ranks .entry))) ⌝ }
+{
+    let certificate = &bytes[from..end];
+    if endian::u16_at(loopbytes, 4) == 5 {
+        return verdict_flat::flat_verdict(judge_by_kind::judge_paths_sound(loopbytes, certificate));
+    }
+    let n = endian::u16_at(loopbytes, 6);
+    let m = endian::u16_at(loopbytes, 8);
+    let at = n * i;
+    flat_certificate(loopbytes, n, m, certificate, &mut ranks[at..at + n])
+}
+
+// The same, with the verdict as it is.
 pub fn judge_part(
     loopbytes: &[u8],
     bytes: &[u8],
@@ -120,12 +179,5 @@ pub fn judge_part(
         (rank-answered (now (loopbytes .entry)) (take (end - from) (drop from (now (bytes .entry)))) (stretch (variables (now (loopbytes .entry))) i (now (ranks .entry))))
         (now (ranks .entry))) ⌝ }
 {
-    let certificate = &bytes[from..end];
-    if endian::u16_at(loopbytes, 4) == 5 {
-        return judge_by_kind::judge_paths_sound(loopbytes, certificate);
-    }
-    let n = endian::u16_at(loopbytes, 6);
-    let m = endian::u16_at(loopbytes, 8);
-    let at = n * i;
-    judge_certificate(loopbytes, n, m, certificate, &mut ranks[at..at + n])
+    verdict_flat::verdict_of(flat_part(loopbytes, bytes, from, end, i, ranks))
 }

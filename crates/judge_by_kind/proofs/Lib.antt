@@ -1,4 +1,5 @@
 pub mod SettlingWays
 pub mod KindWays
 pub mod AnswerWays
+pub mod CertificateWays
 pub mod OneAnswer

@@ -49,14 +49,7 @@ pub fn judge_rows(
     let mut from = 0;
     while i < said.count {
         let end = record_parting::end_at(bytes, from);
-        rows[i] = row_of(verdict_flat::flat_verdict(judge_batch::judge_part(
-            loopbytes,
-            bytes,
-            from,
-            end,
-            i,
-            ranks,
-        )));
+        rows[i] = row_of(judge_batch::flat_part(loopbytes, bytes, from, end, i, ranks));
         from = end;
         i += 1;
     }

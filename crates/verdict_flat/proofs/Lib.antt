@@ -1,1 +1,2 @@
 pub mod FlatVerdictSamples
+pub mod VerdictsAgain

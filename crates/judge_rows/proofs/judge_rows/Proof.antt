@@ -61,23 +61,20 @@ loop-holds c = (omega arith, refl, refl, record { from-is = refl; rows-are = ref
 end-at-requires : tie.Need-end-at-requires Inv-loop μ-loop
 end-at-requires c κs = asks (c .before .before) (omega arith) .starts-within
 
-judge-part-requires : tie.Need-judge-part-requires Inv-loop μ-loop
-judge-part-requires c κs =
+flat-part-requires : tie.Need-flat-part-requires Inv-loop μ-loop
+flat-part-requires c κs =
     let e = c .before in
     let a = asks (l e) (less e) in
     (a .loop-sound, (within e, a .stretch-there))
 
-flat-verdict-requires : tie.Need-flat-verdict-requires Inv-loop μ-loop
-flat-verdict-requires c κs = search needs
-
 row-of-requires : tie.Need-row-of-requires Inv-loop μ-loop
 row-of-requires c κs = search needs
 
-mul-t17 : tie.Need-mul-t17 Inv-loop μ-loop
-mul-t17 c = let e = c .before .before .before .before .before in record { fits = omega (arith, asks (l e) (less e) .few-before) }
+mul-t16 : tie.Need-mul-t16 Inv-loop μ-loop
+mul-t16 c = let e = c .before .before .before .before in record { fits = omega (arith, asks (l e) (less e) .few-before) }
 
 slice-set-from-rows : tie.Need-slice-set-from-rows Inv-loop μ-loop
-slice-set-from-rows c = let e = c .before .before .before .before .before in asks (l e) (less e) .row-there
+slice-set-from-rows c = let e = c .before .before .before .before in asks (l e) (less e) .row-there
 
 add-i : tie.Need-add-i Inv-loop μ-loop
 add-i c = search needs
@@ -87,16 +84,16 @@ loop-less c = omega arith
 
 loop-again : tie.Need-loop-again Inv-loop μ-loop
 loop-again c =
-    let e = c .before .before .before .before .before in
-    let called = c .before .before .before .judge-part in
-    let put = c .row-of .ensures ∙ ap row-of (c .before .flat-verdict .ensures) in
+    let e = c .before .before .before .before in
+    let called = c .before .before .flat-part in
+    let put = c .row-of .ensures ∙ ap row-of (called .ensures .0) in
     let s = at e in (
       omega arith,
       simp length-set (l e .loop .inv .1),
       called .kept .1 .1 .1 .1 .1 .0 ∙ l e .loop .inv .2,
       next-state verdict-row (s .args .loopbytes .now) (s .args .bytes .now) (s .args .rows .now) (s .args .ranks .now) (l e .before .enter .result)
           (l e .before .enter .ensures) (l e .loop .i) (l e .loop .from) (l e .loop .rows) (l e .loop .ranks) (l e .loop .inv .3) (less e) (e .end-at .result)
-          (e .end-at .ensures) (called .result) (c .row-of .result) _ put (called .ensures .0) (called .ensures .1),
+          (e .end-at .ensures) _ (c .row-of .result) _ put refl (called .ensures .1),
     )
 
 same-length : tie.Need-same-length Inv-loop μ-loop
@@ -130,10 +127,9 @@ judge-rows-spec =
     enter-requires
     loop-holds
     end-at-requires
-    judge-part-requires
-    flat-verdict-requires
+    flat-part-requires
     row-of-requires
-    mul-t17
+    mul-t16
     slice-set-from-rows
     add-i
     loop-less
