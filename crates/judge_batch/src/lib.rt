@@ -10,6 +10,7 @@ ghost use lib.ListN.{length, take, drop};
 ghost use Rattle.refusal.specs.Faults.{fault-of};
 ghost use Rattle.refusal.specs.Tests.{done};
 ghost use Rattle.judge.specs.SoundPairs.{LoopSound};
+ghost use Rattle.judge_by_kind.specs.PastFrames.{Past};
 ghost use Rattle.verdict_short.specs.Answers.{answered, rank-answered};
 ghost use Rattle.verdict_flat.specs.FlatVerdicts.{flat-verdict};
 ghost use Rattle.verdict_batch.specs.Batches.{loop-told, variables, stretch, with-stretch, batch-of, batch-answers};
@@ -78,8 +79,29 @@ pub fn enter(loopbytes: &[u8], bytes: &[u8], places: usize, numbers: usize) -> B
 
 // ---- one record
 
-// Judges a certificate for a loop record of kind 1 that has been checked, as `judge_by_kind` does. Each kind's verdict is told in numbers by itself:
-// put together first, verdicts would lie in memory, and be read before they are written through (`docs/PERFORMANCE.md`, "A batch").
+// Kinds 3 and 7, and the numbers that no kind has.
+fn judge_others(
+    loopbytes: &[u8],
+    n: usize,
+    m: usize,
+    certificate: &[u8],
+    kind: usize,
+    rank: &mut [i64],
+) -> Verdict
+    requires { ⌜ Past (now loopbytes) (now certificate) n m kind ⌝ }
+    requires { ⌜ (kind ≡ 2 → ⊥) × (kind ≡ 4 → ⊥) × (kind ≡ 8 → ⊥) ⌝ }
+    ensures { λ r. ⌜ (r ≡ answered (now (loopbytes .entry)) (now (certificate .entry)) (now (rank .entry)))
+        × (now (rank .exit) ≡ rank-answered (now (loopbytes .entry)) (now (certificate .entry)) (now (rank .entry))) ⌝ }
+{
+    match kind {
+        3 => judge::by_exclusion(&loopbytes[..], n, m, &certificate[..]),
+        7 => judge_short::by_short(&loopbytes[..], n, m, &certificate[..], rank),
+        _ => judge::refused(2, 4, 4),
+    }
+}
+
+// Judges a certificate for a loop record of kind 1 that has been checked, as `judge_by_kind` does. Where a ranking is shown the verdict is told in
+// numbers by itself: put together with the others first, it would be read from memory before it is written there (`docs/PERFORMANCE.md`, "A batch").
 fn flat_certificate(
     loopbytes: &[u8],
     n: usize,
@@ -95,7 +117,8 @@ fn flat_certificate(
     if head.number != 0 {
         return verdict_flat::flat_verdict(judge::refused(2, head.number, head.place));
     }
-    match endian::u16_at(certificate, 4) {
+    let kind = endian::u16_at(certificate, 4);
+    match kind {
         2 => verdict_flat::flat_verdict(judge::by_ranking(
             &loopbytes[..],
             n,
@@ -103,20 +126,7 @@ fn flat_certificate(
             &certificate[..],
             rank,
         )),
-        3 => verdict_flat::flat_verdict(judge::by_exclusion(
-            &loopbytes[..],
-            n,
-            m,
-            &certificate[..],
-        )),
         4 => verdict_flat::flat_verdict(judge::by_lasso(
-            &loopbytes[..],
-            n,
-            m,
-            &certificate[..],
-            rank,
-        )),
-        7 => verdict_flat::flat_verdict(judge_short::by_short(
             &loopbytes[..],
             n,
             m,
@@ -130,7 +140,14 @@ fn flat_certificate(
             &certificate[..],
             rank,
         )),
-        _ => verdict_flat::flat_verdict(judge::refused(2, 4, 4)),
+        _ => verdict_flat::flat_verdict(judge_others(
+            &loopbytes[..],
+            n,
+            m,
+            &certificate[..],
+            kind,
+            rank,
+        )),
     }
 }
 

@@ -10,7 +10,7 @@ use Rattle.endian.specs.Numbers.{littleAt}
 use Rattle.record.specs.Readers.{framing, loop-reader}
 use Rattle.record.specs.declared.Wanted.{Wanted}
 use Rattle.record.proofs.KindLaws.{unwanted-kind}
-use Rattle.record_check.specs.Checks.{framed, Framed, Opened}
+use Rattle.record_check.specs.Checks.{framed, Opened}
 use Rattle.record_check.specs.declared.Checked.{Checked}
 use Rattle.refusal.specs.Tests.{first}
 use Rattle.verdict.specs.Judging.{judge-of}
@@ -23,6 +23,7 @@ use Rattle.verdict_short.proofs.KindNumbers.{seven, eight, none-of-them}
 use Rattle.judge.specs.SoundPairs.{LoopSound, Judged}
 use Rattle.judge.proofs.Framing.{frame-told, opened, unwanted-told}
 use Rattle.judge.proofs.JudgingWays as Rows
+use Rattle.judge_by_kind.specs.PastFrames.{Past}
 use Rattle.judge_by_kind.specs.SettlingShown.{SettlingJudged}
 use Rattle.judge_by_kind.proofs.AnswerWays.{Answers, as-short, as-settling, as-others, unframed}
 
@@ -42,11 +43,7 @@ by-frame loopbytes certificate lent sound-loop head is some v v-is =
     let by = unframed loopbytes certificate lent (of-rows sound-loop) (sound-loop .told) _ _ (frame-told certificate head is some) in
     (v-is ∙ by .0, by .1)
 
--- past the frame, where the number of the kind is read
-pub record Past (loopbytes certificate : List ℕ) (n m number : ℕ) : Type 0 where
-  pub loop-sound : LoopSound loopbytes n m
-  pub frame-right : Framed certificate
-  pub number-is : number ≡ littleAt 2 certificate 4
+-- ---- past the frame, where the number of the kind is read
 
 module _ {loopbytes certificate : List ℕ} {n m number : ℕ} (past : Past loopbytes certificate n m number) where
   pub open-as : (k : ℕ) → number ≡ k → Opened certificate k n m

@@ -15,11 +15,12 @@ ghost use Rattle.judge_ranking.specs.RankedBy.{nextIn, holds-at, HoldBef
 ghost use Rattle.judge_ranking.specs.RankingHeld.{ranking-held};
 use refusal::Fault;
 
-// A ranking's answer: number 0 with start and fall where its conditions hold; otherwise the number and place of the first that fails.
+// A ranking's answer: number 0 with start and fall where its conditions hold; otherwise the number and place of the first that fails. Start and
+// fall stand apart: side by side, they would be loaded as one, which waits for the two stores (`docs/PERFORMANCE.md`, "A batch").
 pub struct Ranked {
     pub number: usize,
-    pub place: usize,
     pub start: i64,
+    pub place: usize,
     pub fall: i64,
 }
 

@@ -69,22 +69,13 @@ fn outcome_of(outcome: usize, start: i64, fall: i64, grade: usize) -> Outcome
     ensures { λ r. ⌜ r ≡ outcome-back (record { kind = outcome; start = start; fall = fall; grade = grade }) ⌝ }
 {
     match outcome {
-        2 => Outcome::Ranking {
-            start: start,
-            fall: fall,
-        },
+        2 => Outcome::Ranking { start, fall },
         3 => Outcome::Exclusion {
             grade: grade_of(grade),
         },
-        4 => Outcome::Lasso {
-            start: start,
-            fall: fall,
-        },
+        4 => Outcome::Lasso { start, fall },
         6 => Outcome::Lexicographic,
-        8 => Outcome::Settling {
-            start: start,
-            fall: fall,
-        },
+        8 => Outcome::Settling { start, fall },
         _ => Outcome::Nothing,
     }
 }

@@ -30,7 +30,7 @@ returns-2 c =
     let told = accepted .before in
     let passed = told .before in
     let shown = passed .before .before .before .args .shown in
-    let start = toZ-ofZ {w = w64} {z = shown .start} (record { sfits = told .struct-told .given .1 .1 .0 .1 }) in
+    let start = toZ-ofZ {w = w64} {z = shown .start} (record { sfits = told .struct-told .given .1 .0 .1 }) in
     let fall = toZ-ofZ {w = w64} {z = shown .fall} (record { sfits = told .struct-told .given .1 .1 .1 .0 .1 }) in
     let verdict = rw (start, fall) at (accepted .accepted .ensures) in
     rw (eq-eqb (shown .number) 0 (passed .if1 .left), verdict, c .steps-at .ensures)

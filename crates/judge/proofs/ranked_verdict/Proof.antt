@@ -30,7 +30,7 @@ returns-2 c =
     let told = c .before .before .before in
     let passed = told .before in
     let shown = passed .before .before .args .shown in
-    let start = toZ-ofZ {w = w64} {z = shown .start} (record { sfits = told .struct-told .given .1 .1 .0 .1 }) in
+    let start = toZ-ofZ {w = w64} {z = shown .start} (record { sfits = told .struct-told .given .1 .0 .1 }) in
     let fall = toZ-ofZ {w = w64} {z = shown .fall} (record { sfits = told .struct-told .given .1 .1 .1 .0 .1 }) in
     c .accepted .ensures ∙ ap shows (rw (start, fall) at (c .before .rank-outcome .ensures)) ∙ rw (eq-eqb (shown .number) 0 (passed .if1 .left))
 

@@ -4,6 +4,7 @@ use native.Mathlib.Omega.{arith}
 use borrow.Author.Needs.{needs}
 use Rattle.record_check.specs.Checks.{Framed}
 use Rattle.judge.proofs.Framing.{well-framed}
+use Rattle.judge_by_kind.specs.PastFrames.{Past}
 use Rattle.judge_by_kind.proofs.CertificateWays as Ways
 use Rattle.judge_batch.proofs.FlatWays.{in-numbers}
 use Rattle.judge_batch.proofs.flat_certificate.Statement.{statement}
@@ -21,7 +22,7 @@ module _ (c : tie.After-u16-at) where
   abbrev s : tie.Start
   s = start (c .before .before .before)
 
-  past : Ways.Past (s .args .loopbytes .now) (s .args .certificate .now) (s .args .n) (s .args .m) (c .u16-at .result)
+  past : Past (s .args .loopbytes .now) (s .args .certificate .now) (s .args .n) (s .args .m) (c .u16-at .result)
   past = record { loop-sound = s .pre; frame-right = right-frame (c .before); number-is = c .u16-at .ensures .0 }
 
 frame-requires : tie.Need-frame-requires
@@ -43,48 +44,28 @@ u16-at-requires : tie.Need-u16-at-requires
 u16-at-requires c κs = right-frame c .head
 
 by-ranking-requires : tie.Need-by-ranking-requires
-by-ranking-requires c κs =
-    let read = c .before .before in
-    (s read .pre, Ways.open-as (past read) 2 (c .before .match .keys1))
+by-ranking-requires c κs = let read = c .before .before in (s read .pre, Ways.open-as (past read) 2 (c .before .match .keys1))
 
 flat-verdict-requires-2 : tie.Need-flat-verdict-requires-2
 flat-verdict-requires-2 c κs = search needs
 
-by-exclusion-requires : tie.Need-by-exclusion-requires
-by-exclusion-requires c κs =
-    let read = c .before in
-    (s read .pre, Ways.open-as (past read) 3 (c .match .keys2))
+by-lasso-requires : tie.Need-by-lasso-requires
+by-lasso-requires c κs = let read = c .before .before in (s read .pre, Ways.open-as (past read) 4 (c .before .match .keys2))
 
 flat-verdict-requires-3 : tie.Need-flat-verdict-requires-3
 flat-verdict-requires-3 c κs = search needs
 
-by-lasso-requires : tie.Need-by-lasso-requires
-by-lasso-requires c κs =
-    let read = c .before .before in
-    (s read .pre, Ways.open-as (past read) 4 (c .before .match .keys3))
+settling-sound-requires : tie.Need-settling-sound-requires
+settling-sound-requires c κs = s (c .before .before) .pre
 
 flat-verdict-requires-4 : tie.Need-flat-verdict-requires-4
 flat-verdict-requires-4 c κs = search needs
 
-by-short-requires : tie.Need-by-short-requires
-by-short-requires c κs =
-    let read = c .before .before in
-    (s read .pre, Ways.is-seven (past read) (c .before .match .keys4))
+judge-others-requires : tie.Need-judge-others-requires
+judge-others-requires c κs = let rest = c .before .match .rest in (past (c .before .before), (rest .0 .0 .1, rest .0 .1, rest .1))
 
 flat-verdict-requires-5 : tie.Need-flat-verdict-requires-5
 flat-verdict-requires-5 c κs = search needs
-
-settling-sound-requires : tie.Need-settling-sound-requires
-settling-sound-requires c κs = s (c .before .before) .pre
-
-flat-verdict-requires-6 : tie.Need-flat-verdict-requires-6
-flat-verdict-requires-6 c κs = search needs
-
-refused-requires-2 : tie.Need-refused-requires-2
-refused-requires-2 c κs = search needs
-
-flat-verdict-requires-7 : tie.Need-flat-verdict-requires-7
-flat-verdict-requires-7 c κs = search needs
 
 same-length : tie.Need-same-length
 same-length c = search needs
@@ -96,50 +77,31 @@ returns-2 c =
     let read = arm .before in
     in-numbers (c .flat-verdict2 .ensures) (Ways.by-base (past read) (s read .args .rank .now) 2 (arm .match .keys1) (omega arith) _ _ (called .by-ranking .ensures))
 
-returns-3 : tie.Need-returns-3
-returns-3 c =
-    let called = c .before in
-    let arm = called .before in
-    let read = arm .before in
-    in-numbers (c .flat-verdict3 .ensures) (Ways.by-base (past read) (s read .args .rank .now) 3 (arm .match .keys2) (omega arith) _ _ (called .by-exclusion .ensures (s read .args .rank .now)))
-
 same-length-2 : tie.Need-same-length-2
 same-length-2 c = search needs
+
+returns-3 : tie.Need-returns-3
+returns-3 c =
+    let called = c .before .before in
+    let arm = called .before .before in
+    let read = arm .before in
+    in-numbers (c .flat-verdict3 .ensures) (Ways.by-base (past read) (s read .args .rank .now) 4 (arm .match .keys2) (omega arith) _ _ (called .by-lasso .ensures))
+
+same-length-3 : tie.Need-same-length-3
+same-length-3 c = search needs
 
 returns-4 : tie.Need-returns-4
 returns-4 c =
     let called = c .before .before in
     let arm = called .before .before in
     let read = arm .before in
-    in-numbers (c .flat-verdict4 .ensures) (Ways.by-base (past read) (s read .args .rank .now) 4 (arm .match .keys3) (omega arith) _ _ (called .by-lasso .ensures))
-
-same-length-3 : tie.Need-same-length-3
-same-length-3 c = search needs
-
-returns-5 : tie.Need-returns-5
-returns-5 c =
-    let called = c .before .before in
-    let arm = called .before .before in
-    let read = arm .before in
-    in-numbers (c .flat-verdict5 .ensures) (Ways.by-seven (past read) (s read .args .rank .now) (arm .match .keys4) _ _ (called .by-short .ensures))
+    in-numbers (c .flat-verdict4 .ensures) (Ways.by-eight (past read) (s read .args .rank .now) (arm .match .keys3) _ _ (called .settling-sound .ensures))
 
 same-length-4 : tie.Need-same-length-4
 same-length-4 c = search needs
 
-returns-6 : tie.Need-returns-6
-returns-6 c =
-    let called = c .before .before in
-    let arm = called .before .before in
-    let read = arm .before in
-    in-numbers (c .flat-verdict6 .ensures) (Ways.by-eight (past read) (s read .args .rank .now) (arm .match .keys5) _ _ (called .settling-sound .ensures))
-
-returns-7 : tie.Need-returns-7
-returns-7 c =
-    let called = c .before in
-    let arm = called .before in
-    let read = arm .before in
-    let rest = arm .match .rest in
-    in-numbers (c .flat-verdict7 .ensures) (Ways.by-none (past read) (s read .args .rank .now) (rest .0 .0 .0 .0 .1) (rest .0 .0 .0 .1) (rest .0 .0 .1) (rest .0 .1) (rest .1) _ (called .refused2 .ensures))
+returns-5 : tie.Need-returns-5
+returns-5 c = in-numbers (c .flat-verdict5 .ensures) (c .before .before .judge-others .ensures)
 
 pub flat-certificate-spec : {M : Type 1} → statement M
 flat-certificate-spec =
@@ -152,23 +114,17 @@ flat-certificate-spec =
     u16-at-requires
     by-ranking-requires
     flat-verdict-requires-2
-    by-exclusion-requires
-    flat-verdict-requires-3
     by-lasso-requires
-    flat-verdict-requires-4
-    by-short-requires
-    flat-verdict-requires-5
+    flat-verdict-requires-3
     settling-sound-requires
-    flat-verdict-requires-6
-    refused-requires-2
-    flat-verdict-requires-7
+    flat-verdict-requires-4
+    judge-others-requires
+    flat-verdict-requires-5
     same-length
     returns-2
-    returns-3
     same-length-2
-    returns-4
+    returns-3
     same-length-3
-    returns-5
+    returns-4
     same-length-4
-    returns-6
-    returns-7)
+    returns-5)

@@ -25,7 +25,7 @@ module _ (c : tie.After-struct-told) where
   held = c .before .before .before
 
   start-fits : toZ w64 (ofZ w64 (s held .args .shown .start)) ≡ s held .args .shown .start
-  start-fits = toZ-ofZ (record { sfits = c .struct-told .given .1 .1 .0 .1 })
+  start-fits = toZ-ofZ (record { sfits = c .struct-told .given .1 .0 .1 })
 
   fall-fits : toZ w64 (ofZ w64 (s held .args .shown .fall)) ≡ s held .args .shown .fall
   fall-fits = toZ-ofZ (record { sfits = c .struct-told .given .1 .1 .1 .0 .1 })

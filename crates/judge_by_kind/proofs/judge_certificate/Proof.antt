@@ -3,6 +3,7 @@ use native.Mathlib.Omega.{arith}
 use borrow.Author.Needs.{needs}
 use Rattle.record_check.specs.Checks.{Framed}
 use Rattle.judge.proofs.Framing.{well-framed}
+use Rattle.judge_by_kind.specs.PastFrames.{Past}
 use Rattle.judge_by_kind.proofs.CertificateWays as Ways
 use Rattle.judge_by_kind.proofs.judge_certificate.Statement.{statement}
 use Rattle.judge_by_kind.proofs.judge_certificate.Tie as tie
@@ -19,7 +20,7 @@ module _ (c : tie.After-u16-at) where
   abbrev s : tie.Start
   s = start (c .before .before .before)
 
-  past : Ways.Past (s .args .loopbytes .now) (s .args .certificate .now) (s .args .n) (s .args .m) (c .u16-at .result)
+  past : Past (s .args .loopbytes .now) (s .args .certificate .now) (s .args .n) (s .args .m) (c .u16-at .result)
   past = record { loop-sound = s .pre; frame-right = right-frame (c .before); number-is = c .u16-at .ensures .0 }
 
 frame-requires : tie.Need-frame-requires
