@@ -7,6 +7,7 @@
 //     NAME: to-short N M ROOM BYTES              shortens a ranking
 //     NAME: from-short N M ROOM BYTES            lengthens one
 //     NAME: judge PLACES LOOP CERTIFICATE        judges; the rank list starts as nines
+//     NAME: all PLACES NUMBERS LOOP RECORDS      judges records laid end to end; PLACES are the verdicts', NUMBERS the ranks', which all start as nines
 //     NAME: bound LOOP CERTIFICATE ENTRY ..      tells the bound at a state
 //
 // Bytes are pairs of hexadecimal digits, `-` for none; numbers are decimal. A name ends in its first colon. A line that starts with `#` is a comment.
@@ -153,6 +154,42 @@ fn judge(name: &[u8], line: &[u8], from: usize)
     cases_telling::judged(name, v, cases_lines::values_of(&rank, list));
 }
 
+// Judges a batch, and prints what it leaves in what is lent to it.
+fn tell_batch(
+    name: &[u8],
+    looped: &[u8],
+    records: &[u8],
+    rows: &mut [[usize; 7]],
+    ranks: &mut [i64],
+) {
+    let said = judge_rows::judge_rows(looped, records, rows, ranks);
+    cases_telling::batched(name, said, rows, ranks);
+}
+
+fn judge_all(name: &[u8], line: &[u8], from: usize)
+    requires { ⌜ from ≤ length (now line) ⌝ }
+{
+    let mut looped = record_room();
+    let mut records = record_room();
+    let mut rows = [[9usize; 7]; 40];
+    let mut ranks = [9i64; 128];
+    let places = cases_lines::count(line, from);
+    let given = cases_lines::count(line, places.at);
+    let first = cases_lines::bytes(line, given.at, &mut looped);
+    let second = cases_lines::bytes(line, first.at, &mut records);
+    let a = first.count;
+    let b = second.count;
+    let row = cases_lines::places(places.size, 40);
+    let list = cases_lines::places(given.size, 128);
+    tell_batch(
+        name,
+        cases_lines::bytes_of(&looped, a),
+        cases_lines::bytes_of(&records, b),
+        cases_lines::rows_of(&mut rows, row),
+        cases_lines::places_of(&mut ranks, list),
+    );
+}
+
 fn bound(name: &[u8], line: &[u8], from: usize)
     requires { ⌜ from ≤ length (now line) ⌝ }
 {
@@ -186,6 +223,7 @@ fn run_case(name: &[u8], line: &[u8], from: usize)
         116 => to_short(name, line, at),
         102 => from_short(name, line, at),
         106 => judge(name, line, at),
+        97 => judge_all(name, line, at),
         98 => bound(name, line, at),
         _ => cases_telling::word(b"no such call\n"),
     }

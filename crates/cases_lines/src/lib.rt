@@ -174,3 +174,9 @@ pub fn places_of<'a>(list: &'a mut [i64], size: usize) -> &'a mut [i64]
 {
     &mut list[..size]
 }
+
+pub fn rows_of<'a>(list: &'a mut [[usize; 7]], size: usize) -> &'a mut [[usize; 7]]
+    requires { ⌜ size ≤ length (now list) ⌝ }
+{
+    &mut list[..size]
+}

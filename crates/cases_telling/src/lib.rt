@@ -8,6 +8,7 @@ use verdict::Bounded;
 use verdict::Grade;
 use verdict::Outcome;
 use verdict::Verdict;
+use verdict_batch::Batched;
 
 // All that is printed goes through here. What fails is told by one line: standard error is closed behind it, since the words that follow fail
 // as well and nothing remembers from one to the next.
@@ -20,11 +21,15 @@ pub fn word(text: &[u8])
     }
 }
 
-fn number(x: usize) {
+fn digits(x: usize) {
     let mut text = [0u8; 20];
     let end = io::decimal(x as u64, &mut text);
-    word(b" ");
     word(&text[..end]);
+}
+
+fn number(x: usize) {
+    word(b" ");
+    digits(x);
 }
 
 // Number, place, kind, n, m and the count of values.
@@ -123,5 +128,48 @@ pub fn bounded(name: &[u8], b: Bounded)
     told(name, verdict);
     word(b" bound");
     number(b.bound);
+    word(b"\n");
+}
+
+// A signed number out of its 64 bits.
+fn bits(x: usize) {
+    if x < 9223372036854775808 {
+        number(x);
+    } else {
+        word(b" -");
+        digits(18446744073709551615 - x + 1);
+    }
+}
+
+// A verdict's seven numbers; the fifth and the sixth are signed.
+fn seven(row: &[usize; 7]) {
+    word(b",");
+    number(row[0]);
+    number(row[1]);
+    number(row[2]);
+    number(row[3]);
+    bits(row[4]);
+    bits(row[5]);
+    number(row[6]);
+}
+
+fn verdicts(rows: &[[usize; 7]]) {
+    for i in 0..rows.len() {
+        seven(&rows[i]);
+    }
+}
+
+// Number, place, record and count of a batch; the whole row of verdicts that was lent to it, and the whole list of rank numbers.
+pub fn batched(name: &[u8], b: Batched, rows: &[[usize; 7]], ranks: &[i64])
+    ensures { λ r. ⌜ r ≡ tt ⌝ }
+{
+    word(name);
+    number(b.number);
+    number(b.place);
+    number(b.about);
+    number(b.count);
+    verdicts(rows);
+    word(b" ranks");
+    listed(ranks);
     word(b"\n");
 }
