@@ -17,8 +17,8 @@ at most 3 steps
 certificate, 22 at 1: (Y − Z)A is not 0 in column 1 (y)
 """
 from .answers import Accepted, Bounded, Excluded, Grade, LassoRanked, Ordered, Outcome, Ranked, Settled, Verdict
-from .calls import lengthen, read_certificate, read_loop, sheet_text, shorten, write_record
-from .judging import AnyLoop, Certificate, bound, certificate_from_bytes, judge, loop_from_bytes
+from .calls import MOST_RECORDS, lengthen, read_certificate, read_loop, sheet_text, shorten, write_record
+from .judging import AnyLoop, Certificate, bound, certificate_from_bytes, judge, judge_all, judge_list, loop_from_bytes
 from .layouts import Shape
 from .library import LibraryMissing
 from .packed import Argument, Component, Part, PathLoop, Settling
@@ -30,8 +30,8 @@ from .wording import words
 
 __all__ = [
     "Accepted", "AnyLoop", "Argument", "Bounded", "Certificate", "Component", "Counts", "Excluded", "Exclusion", "Grade", "Lasso",
-    "LassoRanked", "LibraryMissing", "Loop", "Ordered", "Outcome", "Part", "PathLoop", "Ranked", "Ranking", "Record", "Refusal",
-    "Refused", "Row", "Settled", "Settling", "Shape", "Sheet", "Verdict", "Where", "bound", "certificate_from_bytes", "expect",
-    "judge", "lengthen", "loop_and_certificates", "loop_from_bytes", "parted", "read_certificate", "read_loop", "sheet",
-    "sheet_text", "shorten", "words", "write_record",
+    "LassoRanked", "LibraryMissing", "Loop", "MOST_RECORDS", "Ordered", "Outcome", "Part", "PathLoop", "Ranked", "Ranking",
+    "Record", "Refusal", "Refused", "Row", "Settled", "Settling", "Shape", "Sheet", "Verdict", "Where", "bound",
+    "certificate_from_bytes", "expect", "judge", "judge_all", "judge_list", "lengthen", "loop_and_certificates",
+    "loop_from_bytes", "parted", "read_certificate", "read_loop", "sheet", "sheet_text", "shorten", "words", "write_record",
 ]

@@ -3,13 +3,15 @@ type. A call that cannot give what was asked for answers a `Refusal`.
 """
 from __future__ import annotations
 
-from typing import Any, Iterable, NamedTuple, Sequence, Union
+from typing import Any, Iterable, Iterator, NamedTuple, Optional, Sequence, Union
 
 from .answers import Bounded, Excluded, Grade, LassoRanked, Ordered, Outcome, Ranked, Settled, Verdict
-from .library import RawBounded, RawVerdict, library, number, numbers, room
+from .library import RawBatch, RawBounded, RawVerdict, library, number, numbers, room, row
+from .parting import is_whole
 from .refusals import Record, Refusal
 
 MOST_VARIABLES = 16
+MOST_RECORDS = 32  # of a batch
 
 
 class Values(NamedTuple):
@@ -107,6 +109,49 @@ def judge_bytes(loop: bytes, certificate: bytes, names: Sequence[str] = ()) -> V
     answer = library().cushiedoo_judge(loop, len(loop), certificate, len(certificate), rank, size)
     n = int.from_bytes(loop[6:8], "little")
     return verdict_of(answer, tuple(rank[: min(n, size)]), tuple(names))
+
+
+def judge_all_bytes(loop: bytes, records: bytes, names: Sequence[str] = ()) -> Union[tuple[Verdict, ...], Refusal]:
+    """Judges the bytes of at most 32 certificates, laid end to end, for a loop's bytes. The room is always enough."""
+    loop, records = bytes(loop), bytes(records)
+    n = min(int.from_bytes(loop[6:8], "little"), MOST_VARIABLES)  # of a loop that is sound
+    verdicts, named = row(MOST_RECORDS), tuple(names)
+    ranks, size = numbers((0,) * (MOST_RECORDS * n))
+    answer: RawBatch = library().cushiedoo_judge_all(
+        loop, len(loop), records, len(records), verdicts, MOST_RECORDS, ranks, size
+    )
+    if answer.number:
+        return Refusal(answer.number, answer.place, Record(answer.record), named)
+    return tuple(verdict_of(verdicts[i], tuple(ranks[i * n : (i + 1) * n]), named) for i in range(answer.count))
+
+
+def judge_list_bytes(
+    loop: bytes, records: Iterable[bytes], names: Sequence[str] = ()
+) -> Union[tuple[Verdict, ...], Refusal]:
+    """Judges the bytes of certificates, each by its own bytes, for a loop's bytes. The only refusals are those of the loop."""
+    judged: list[Verdict] = []
+    for run, alone in _runs(records):
+        told = judge_all_bytes(loop, run, names)
+        if isinstance(told, Refusal):
+            return told
+        judged += told
+        if alone is not None:
+            judged.append(judge_bytes(loop, alone, names))
+    return tuple(judged)
+
+
+def _runs(records: Iterable[bytes]) -> Iterator[tuple[bytes, Optional[bytes]]]:
+    """A list in runs: at most 32 records end to end, each of which parting cuts off as it is, and the record after them that it
+    would not, if there is one."""
+    run: list[bytes] = []
+    for record in records:
+        whole = is_whole(record)
+        if not whole or len(run) == MOST_RECORDS:
+            yield b"".join(run), None if whole else record
+            run = []
+        if whole:
+            run.append(record)
+    yield b"".join(run), None
 
 
 def bound_bytes(loop: bytes, certificate: bytes, state: Sequence[int], names: Sequence[str] = ()) -> Union[Bounded, Refusal]:

@@ -1,10 +1,10 @@
-"""Judging and bound of records, as objects or as bytes. The verdict is always the archive's."""
+"""Judging and bound of records, as objects or as bytes, and judging of several at once. The verdict is always the archive's."""
 from __future__ import annotations
 
-from typing import Sequence, Union
+from typing import Iterable, Sequence, TypeVar, Union
 
 from .answers import Bounded, Verdict
-from .calls import bound_bytes, judge_bytes
+from .calls import bound_bytes, judge_all_bytes, judge_bytes, judge_list_bytes
 from .layouts import Shape, kind_of, value_at, U16
 from .notation import counted
 from .packed import Argument, PathLoop, Settling
@@ -13,6 +13,8 @@ from .refusals import Record, Refusal
 
 AnyLoop = Union[Loop, PathLoop]
 Certificate = Union[Ranking, Exclusion, Lasso, Argument, Settling]
+T = TypeVar("T")
+BYTES = (bytes, bytearray, memoryview)
 
 
 def judge(loop: Union[AnyLoop, bytes], certificate: Union[Certificate, bytes]) -> Verdict:
@@ -34,7 +36,70 @@ def judge(loop: Union[AnyLoop, bytes], certificate: Union[Certificate, bytes]) -
     packed = _packed(loop, certificate)
     if isinstance(packed, Refusal):
         return packed
-    return _fitting(loop, certificate, packed, judge_bytes(*packed, names=_names(loop)))  # type: ignore[return-value]
+    return _fitting(certificate, packed[0], judge_bytes(*packed, names=_names(loop)))
+
+
+def judge_all(loop: Union[AnyLoop, bytes], records: bytes) -> Union[tuple[Verdict, ...], Refusal]:
+    """Judges certificates that are laid end to end, at most 32, and gives for each in turn the verdict that `judge` gives. The loop
+    is checked once, not once a record. No bytes are no records.
+
+    L alone says where a record ends, as on a sheet (`parted`). So a wrong L moves what follows it. `judge_list` keeps records
+    apart.
+
+    The whole is refused for its loop, or with 13 and the count of all records if that is over 32. A record that is refused has its
+    refusal as its verdict, and the next is judged as ever.
+
+    >>> from cushiedoo import Row
+    >>> p = Loop(2, [Row((-1, 1), (0, 0), -2), Row((-1, 0), (1, 0), -1), Row((0, 1), (0, -1), 0)], names=("x", "y"))
+    >>> good, bad = Ranking((1, 0, 0), (0, 1, 1)).to_bytes(), Ranking((1, 0, 0), (0, 1, 0)).to_bytes()
+    >>> print(*judge_all(p, good + bad), sep="\\n")
+    ranking accepted: x − y is at least 2 before each step and falls by at least 1 in it
+    certificate, 22 at 1: (Y − Z)A is not 0 in column 1 (y)
+    >>> print(judge_all(p, 33 * good))
+    13 at 33: there are more than 32 records, 33 in all
+    """
+    if not isinstance(records, BYTES):
+        raise TypeError("judge_all takes the bytes of records that are laid end to end; judge_list takes a list of certificates")
+    looped = _bytes_of(loop)
+    return looped.named(_names(loop)) if isinstance(looped, Refusal) else judge_all_bytes(looped, records, _names(loop))
+
+
+def judge_list(
+    loop: Union[AnyLoop, bytes], certificates: Iterable[Union[Certificate, bytes]]
+) -> Union[tuple[Verdict, ...], Refusal]:
+    """Judges a list of certificates, of any length, and gives for each the verdict that `judge` gives. The whole is refused for its
+    loop alone. A certificate that was made for a loop of other counts is a `ValueError`, as it is with `judge`.
+
+    Records that part from each other when they are laid end to end are judged in batches of up to 32. One that would not be cut off
+    whole, by an L that is not that of its bytes, would take bytes of those behind it or leave them its own; it is judged by itself.
+
+    >>> from cushiedoo import Row
+    >>> p = Loop(2, [Row((-1, 1), (0, 0), -2), Row((-1, 0), (1, 0), -1), Row((0, 1), (0, -1), 0)])
+    >>> good = Ranking((1, 0, 0), (0, 1, 1))
+    >>> longer = b"\\x0f" + good.to_bytes()[1:]  # an L that asks for one byte more
+    >>> [verdict.accepted for verdict in judge_all(p, longer + good.to_bytes())]
+    [False, False]
+    >>> [verdict.accepted for verdict in judge_list(p, [longer, good])]
+    [False, True]
+    """
+    if isinstance(certificates, BYTES):
+        raise TypeError("judge_list takes a list of certificates; judge_all takes the bytes of records that are laid end to end")
+    looped, names = _bytes_of(loop), _names(loop)
+    if isinstance(looped, Refusal):
+        return looped.named(names)
+    listed = list(certificates)
+    packed = list(map(_bytes_of, listed))
+    judged = judge_list_bytes(looped, (data for data in packed if isinstance(data, bytes)), names)
+    if isinstance(judged, Refusal):
+        return judged
+    verdicts = iter(judged)
+    told: list[Verdict] = []
+    for i, (certificate, data) in enumerate(zip(listed, packed)):
+        if isinstance(data, Refusal):
+            told.append(data.named(names))
+        else:
+            told.append(_fitting(certificate, looped, next(verdicts), f"the certificate at index {i}"))
+    return tuple(told)
 
 
 def bound(
@@ -52,7 +117,7 @@ def bound(
     packed = _packed(loop, certificate)
     if isinstance(packed, Refusal):
         return packed
-    return _fitting(loop, certificate, packed, bound_bytes(*packed, state, names=_names(loop)))  # type: ignore[return-value]
+    return _fitting(certificate, packed[0], bound_bytes(*packed, state, names=_names(loop)))
 
 
 def loop_from_bytes(data: bytes, names: Sequence[str] = ()) -> Union[AnyLoop, Refusal]:
@@ -74,34 +139,33 @@ def certificate_from_bytes(data: bytes, loop: AnyLoop) -> Union[Certificate, Ref
 
 
 def _names(loop: Union[AnyLoop, bytes]) -> tuple[str, ...]:
-    return () if isinstance(loop, (bytes, bytearray, memoryview)) else loop.names
+    return () if isinstance(loop, BYTES) else loop.names
+
+
+def _bytes_of(record: Union[AnyLoop, Certificate, bytes]) -> Union[bytes, Refusal]:
+    return bytes(record) if isinstance(record, BYTES) else record.to_bytes()
 
 
 def _packed(loop: Union[AnyLoop, bytes], certificate: Union[Certificate, bytes]) -> Union[tuple[bytes, bytes], Refusal]:
     both = []
     for record in (loop, certificate):
-        data = bytes(record) if isinstance(record, (bytes, bytearray, memoryview)) else record.to_bytes()
+        data = _bytes_of(record)
         if isinstance(data, Refusal):
             return data.named(_names(loop))
         both.append(data)
     return both[0], both[1]
 
 
-def _fitting(
-    loop: Union[AnyLoop, bytes],
-    certificate: Union[Certificate, bytes],
-    packed: tuple[bytes, bytes],
-    answer: Union[Verdict, Bounded],
-) -> Union[Verdict, Bounded]:
+def _fitting(certificate: Union[Certificate, bytes], loop: bytes, answer: T, which: str = "the certificate") -> T:
     """The answer, unless it is about other numbers than the caller's. A certificate's record does not tell how many variables and rows
     its loop has. One that was made for another loop is refused by its length as a rule; but two lassos, settlings or arguments of
     different shapes can have the same length, and then the one would be read as the other."""
     made_for = getattr(certificate, "shape", None)
     if made_for is None or (isinstance(answer, Refusal) and (answer.record is Record.LOOP or answer.number in (3, 4))):
         return answer
-    shape = _shape(packed[0])
+    shape = _shape(loop)
     if shape is not None and made_for != shape:
-        raise ValueError(f"the certificate was made for {_counts(made_for)}, and the loop has {_counts(shape)}")
+        raise ValueError(f"{which} was made for {_counts(made_for)}, and the loop has {_counts(shape)}")
     return answer
 
 

@@ -54,6 +54,14 @@ class RawBounded(ctypes.Structure):
     _fields_ = RawVerdict._fields_ + [("bound", _u64)]
 
 
+class RawBatch(ctypes.Structure):
+    """`cushiedoo_batch` of the header."""
+
+    _fields_ = [(name, _u64) for name in ("number", "place", "record", "count")]
+
+
+_row = ctypes.POINTER(RawVerdict)
+
 # The answer and the arguments of each call, as in include/cushiedoo.h.
 CALLS: dict[str, tuple[type, tuple[Any, ...]]] = {
     "cushiedoo_read_loop": (Reading, (_bytes, _size, _numbers, _size)),
@@ -63,6 +71,7 @@ CALLS: dict[str, tuple[type, tuple[Any, ...]]] = {
     "cushiedoo_lengthen": (Writing, (_bytes, _size, _u64, _u64, _room, _size)),
     "cushiedoo_sheet": (Writing, (_bytes, _size, _room, _size)),
     "cushiedoo_judge": (RawVerdict, (_bytes, _size, _bytes, _size, _numbers, _size)),
+    "cushiedoo_judge_all": (RawBatch, (_bytes, _size, _bytes, _size, _row, _size, _numbers, _size)),
     "cushiedoo_bound": (RawBounded, (_bytes, _size, _bytes, _size, _numbers, _size)),
 }
 OPTIONAL: frozenset[str] = frozenset()
@@ -138,3 +147,8 @@ def numbers(values: Iterable[int]) -> tuple[Any, int]:
 def room(size: int) -> Any:
     """Bytes for a call to fill. There is always one, since a call wants no null pointer."""
     return (ctypes.c_uint8 * max(size, 1))()
+
+
+def row(count: int) -> Any:
+    """Verdicts for a call to fill. There is always one, as of bytes."""
+    return (RawVerdict * max(count, 1))()

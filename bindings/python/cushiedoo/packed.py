@@ -12,6 +12,7 @@ from typing import ClassVar, Iterator, Sequence, Union
 
 from . import calls
 from .layouts import I16, I32, U16, Shape, kind_of, packed, unpacked, value_at
+from .parting import is_whole
 from .records import Loop, Row, check_added, check_names, check_rows, rows_of, settle, taker, whole_numbers
 from .refusals import Record, Refusal
 
@@ -81,7 +82,7 @@ class PathLoop:
 
 def _is_of_another_kind(data: bytes, kind: int) -> bool:
     """Whether bytes are one record, of another kind. They are refused as the readers refuse a kind that is not wanted."""
-    return len(data) >= 6 and len(data) == 4 + value_at(data, 0, (4, False)) and kind_of(data) != kind
+    return is_whole(data) and kind_of(data) != kind
 
 
 def _loop_fault(data: bytes) -> Union[Refusal, None]:

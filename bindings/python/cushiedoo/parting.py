@@ -19,6 +19,15 @@ def taken(data: bytes) -> int:
     return 4 + stated if whole else len(data)
 
 
+def is_whole(data: bytes) -> bool:
+    """Whether bytes are one record by their own L, so that they are cut off as they are, whatever follows them.
+
+    >>> is_whole(bytes([2, 0, 0, 0, 7, 0])), is_whole(bytes([2, 0, 0, 0, 7, 0, 9])), is_whole(bytes(4))
+    (True, False, False)
+    """
+    return len(data) >= 6 and len(data) == 4 + int.from_bytes(data[:4], "little")
+
+
 def parted(data: bytes) -> list[bytes]:
     """The records that bytes hold, one after another to the end. No bytes are no records.
 

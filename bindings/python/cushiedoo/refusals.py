@@ -31,13 +31,15 @@ class Where(enum.Enum):
     ENTRY = "entry"
     ENTRIES = "entries"
     LENGTH = "length"
+    RECORDS = "records"
     COLUMN = "column"
     ROW = "row"
     PATH = "path"
     NOTHING = "nothing"
 
 
-# For each number what is wrong and what the place counts. A column, a row or a path is added to the words.
+# For each number what is wrong and what the place counts. A column, a row or a path is added to the words, and so are the room that
+# is needed and the records that there are.
 MEANINGS: dict[int, tuple[str, Where]] = {
     1: ("the bytes end early", Where.BYTES),
     2: ("there are bytes after the record", Where.BYTES),
@@ -50,6 +52,7 @@ MEANINGS: dict[int, tuple[str, Where]] = {
     10: ("the state does not have one entry for each variable", Where.ENTRIES),
     11: ("the state is outside the invariant of the lasso", Where.NOTHING),
     12: ("the list of values has the wrong length", Where.LENGTH),
+    13: ("there are more than 32 records", Where.RECORDS),
     14: ("a component number does not exist", Where.BYTE),
     15: ("a row of the short ranking is not below m, or not above the row before it", Where.BYTE),
     16: ("Y and Z of a row of the short ranking are both zero", Where.BYTE),
@@ -98,6 +101,8 @@ class Refusal:
     loop, 1 at 17: the bytes end early
     >>> print(Refusal(10, 3))
     10 at 3: the state does not have one entry for each variable
+    >>> print(Refusal(13, 40))
+    13 at 40: there are more than 32 records, 40 in all
     """
 
     number: int
@@ -127,12 +132,17 @@ class Refusal:
 
     @property
     def words(self) -> str:
-        """What is wrong, with the column, the row or the path. They count from 0, as the place does."""
+        """What is wrong, with the column, the row or the path, which count from 0 as the place does; or with the room that is
+        needed, or the records that there are."""
         if self.where is Where.COLUMN:
             name = variable_names(self.names, self.place + 1)[self.place]
             return f"{self.meaning} in column {self.place} ({name})"
         if self.where in (Where.ROW, Where.PATH):
             return f"{self.meaning} in {self.where.value} {self.place}"
+        if self.where is Where.ROOM:
+            return f"{self.meaning}, {self.place} needed"
+        if self.where is Where.RECORDS:
+            return f"{self.meaning}, {self.place} in all"
         return self.meaning
 
     def __str__(self) -> str:
