@@ -3,13 +3,13 @@ from __future__ import annotations
 
 from typing import Iterator, Sequence
 
-from .calls import judge_bytes
+from .calls import judge_bytes, judge_list_bytes
 from .layouts import kind_name, kind_of
 from .notation import counted, variable_names
 from .parting import loop_and_certificates
 from .records import check_names
-from .refusals import Refusal
-from .sheets import TOO_LONG, line_verdict, sheet
+from .refusals import Refusal, expect
+from .sheets import TOO_LONG, sheet
 
 
 def words(data: bytes, names: Sequence[str] = ()) -> Iterator[str]:
@@ -35,13 +35,14 @@ def words(data: bytes, names: Sequence[str] = ()) -> Iterator[str]:
     named = check_names(names, told.loop.n)
     listed = ", ".join(variable_names(named, told.loop.n))
     yield f"loop of {counted(told.loop.n, 'variable')} ({listed}) and {counted(told.loop.m, 'row')}"
-    for count, (line, data_of_it) in enumerate(zip(told.lines[1:], certificates), 1):
-        verdict = line_verdict(line)
+    lines = list(zip(told.verdicts, certificates))
+    accepted = iter(expect(judge_list_bytes(loop, [data_of_it for verdict, data_of_it in lines if verdict.accepted], named)))
+    for count, (verdict, data_of_it) in enumerate(lines, 1):
         if isinstance(verdict, Refusal):
             more = _judged_alone(loop, data_of_it, named) if verdict.number == 4 else ""
             yield f"{count}: refused: {verdict.named(named)}{more}"
         else:
-            yield f"{count}: {judge_bytes(loop, data_of_it, named)}"
+            yield f"{count}: {next(accepted)}"
 
 
 def _not_on_a_sheet(record: bytes) -> str:

@@ -110,6 +110,13 @@ class Sheets(unittest.TestCase):
         for name in names():
             self.assertEqual(len(list(words(sample(name)))), len(sheet(sample(name)).lines), name)
 
+    def test_words_of_many_certificates(self) -> None:
+        rankings = [Ranking((k, 0, 0), (0, k, k if k % 3 else 0)) for k in range(1, 71)]  # every third is refused
+        told = list(words(P.to_bytes() + b"".join(one.to_bytes() for one in rankings), ("x", "y")))
+        for count, verdict in enumerate((judge(P, one) for one in rankings), 1):
+            self.assertEqual(told[count], f"{count}: {'' if verdict else 'refused: '}{verdict}")
+            self.assertEqual(bool(verdict), count % 3 > 0)
+
     def test_parting(self) -> None:
         self.assertEqual(parted(b""), [])
         self.assertEqual(loop_and_certificates(b""), (b"", []))
