@@ -12,7 +12,7 @@ use ghost.Atoms.{Atoms}
 use contract.Monad.{Fun, fact, factI, fact-use}
 use denote.Ref.{now}
 use Rattle.verdict.specs.declared.Verdict.{Verdict}
-use Rattle.judge_all.specs.Lone.{Lone}
+use Rattle.refusal.specs.Lone.{Lone}
 use Rattle.judge_all.proofs.judge_all as judge-all
 
 -- what follows from two facts

@@ -6,3 +6,5 @@ pub mod Places
 pub mod Faults
 -- one possible answer, stated of a contract
 pub mod Single
+-- the same, stated of the clauses of a function that is proved by hand
+pub mod Lone
