@@ -71,7 +71,7 @@ rows-back n (r ∷ rs) rest h =
 pub loop-back : (n m : ℕ) (rs : List Row) → Rows-in n m rs → rows-from n m (rows-values rs) ≡ rs
 loop-back n m rs h = rw (← h .counted, ← append-nil (rows-values rs)) (rows-back n rs [] (h .each) .0)
 
-ranking-back : (m : ℕ) (Y Z : List ℤ) → Ranking-in m Y Z → ranking-from m (ranking-values Y Z) ≡ record { Y = Y; Z = Z }
+pub ranking-back : (m : ℕ) (Y Z : List ℤ) → Ranking-in m Y Z → ranking-from m (ranking-values Y Z) ≡ record { Y = Y; Z = Z }
 unfolding ranking-from ranking-values
 ranking-back m Y Z h =
     let first-of = first-part m Y Z (h .Y-in .counted) in

@@ -7,7 +7,6 @@ use mathlib.Core.List.{List}
 use native.Mathlib.Omega.{arith}
 use lib.IntN.{ℤ, pos}
 use lib.ListN.{length, replicate, length-replicate}
-use lib.Seq.{take-at, drop-at, take-all}
 use Rattle.record.specs.Contents.{In, Counts-in, ranking-values, Ranking-in}
 use Rattle.record.specs.Layouts.{Kind, ranking, kindOf, is-loop}
 use Rattle.record.specs.Ranges.{variables, rows, multipliers}
@@ -26,8 +25,9 @@ use Rattle.record_short.proofs.ShortSound.{ShortSound, small-within}
 use Rattle.record_short.proofs.Weights.{weight-most}
 use Rattle.refusal.specs.Tests.{done, first}
 use Rattle.refusal.proofs.TestLaws.{passes-done}
-use Rattle.verdict.specs.Contents.{ranking-from, ranking-in}
+use Rattle.verdict.specs.Contents.{ranking-in}
 use Rattle.verdict.specs.Pairs.{certificate-record}
+use Rattle.verdict.proofs.InValues.{ranking-back}
 use Rattle.verdict_short.specs.ShortContents.{stood-for}
 use Rattle.whole.proofs.Tables.{length-tabulate, each-tabulate}
 
@@ -82,23 +82,16 @@ module _ (n m : ℕ) (bytes : List ℕ) (s : ShortSound n m bytes) where
       let long : 4 + (2 + 4 * m) ≤ length room = omega (arith, length-replicate {A = ℕ} (6 + 4 * m) 0) in
       has-written w room (ap (λ (a : Writing). a .number) (write-accepts-ranking n m Y Z room counts-in stood-for-in long)) .writable
 
-  ranking-back : ranking-from m (ranking-values Y Z) ≡ stood-for m bytes
-  unfolding ranking-from ranking-values stood-for
-  ranking-back =
-      let Y-long = stood-for-in .Y-in .counted in
-      let Z-few : length Z ≤ m = omega (arith, stood-for-in .Z-in .counted) in
-      rw (take-at Y Z m Y-long, drop-at Y Z m Y-long, take-all m Z Z-few)
-
   -- ---- as a reader finds it
 
   module _ (wants : Kind → Bool) (wanted : wants ranking ≡ true) where
     over-held : Long-held (over w wants 0) m bytes
-    unfolding W.writer W.kind kindOf W.counts-given ranking-in
+    unfolding W.writer W.kind kindOf W.counts-given ranking-in stood-for
     over-held =
         record {
           is-sound = passes-done sound (over w wants 0) (passes-sound w writable wants 0 wanted);
           kind-is = kind-same w writable wants 0;
-          values-are = rw (counts-same w writable wants 0, list-same w writable wants 0) ranking-back;
+          values-are = rw (counts-same w writable wants 0, list-same w writable wants 0) (ranking-back m Y Z stood-for-in);
         }
 
     -- with the n and m of a loop that is read
