@@ -1,18 +1,19 @@
 -- A batch's answers on bytes. P with four certificates: S1, the sheet's second, S2, and S7's exclusion, which is for another loop's n: four verdicts and four stretches. No
--- records, a last record that is cut, 32 and 33 of them; each refusal with its place and in its order; a loop of several paths. A line is a call with what it answers and
--- what the row and the rank numbers hold afterwards; a verdict place holds `empty` and a rank number 77 before the call.
+-- records, a last record that is cut, 32 and 33 of them; each refusal with its place and in its order; a loop of several paths; a lasso between two rankings, and between a
+-- refusal and an exclusion. A line is a call with what it answers and what the row and the rank numbers hold afterwards; a verdict place holds `empty` and a rank number 77
+-- before the call.
 use mathlib.Core.Path.{_≡_, refl}
 use Prim.Native.Nat.{ℕ, zero, suc}
 use mathlib.Core.List.{List, [], _∷_, _++_}
 use lib.IntN.{ℤ, pos, negsuc}
 use lib.ListN.{take, replicate}
-use Rattle.record.specs.Contents.{ranking-values}
+use Rattle.record.specs.Contents.{rows-values, row-values, ranking-values, exclusion-values, lasso-values}
 use Rattle.record.specs.Samples as Records
 use Rattle.record_short.proofs.ShortEdges.{S1-short}
-use Rattle.verdict.specs.Samples.{ranking-bytes, P, S1, S2, S7, second-of-P}
+use Rattle.verdict.specs.Samples.{−, row, loop-bytes, ranking-bytes, exclusion-bytes, lasso-bytes, P, with-stem, S1, S2, S7, S10, S11, second-of-P}
 use Rattle.verdict.specs.Stages.{shows, refusal-of}
 use Rattle.verdict.specs.declared.Grade.the-variants.{Whole}
-use Rattle.verdict.specs.declared.Outcome.the-variants.{Nothing, Ranking, Exclusion, Lexicographic, Settling}
+use Rattle.verdict.specs.declared.Outcome.the-variants.{Nothing, Ranking, Exclusion, Lasso, Lexicographic, Settling}
 use Rattle.verdict.specs.declared.Verdict.{Verdict}
 use Rattle.verdict_paths.specs.PathSampleBytes.{two-counters-bytes, two-counters-argument-bytes}
 use Rattle.verdict_settling.specs.SettlingSampleBytes.{curve-bytes, curve-settling-bytes, curve-exclusion-bytes}
@@ -24,6 +25,24 @@ use Rattle.verdict_batch.specs.declared.Batched.{Batched}
 -- what a verdict place holds before the call; no call answers it
 abbrev empty : Verdict
 empty = record { number = 99; place = 98; about = 97; outcome = Nothing }
+
+-- A lasso of P, over (p, q): after the stem q >= 1, and P keeps q - 1 >= 0. With the added row -q <= -1 it has r (1,0), from 3, down 1, which no ranking of P's own
+-- rows has: of them alone p has no least value.
+unfoldable pub lasso-of-P : List ℕ
+lasso-of-P =
+    lasso-bytes 2 3
+    (record {
+      stem = row (pos 0 ∷ pos 0 ∷ []) (pos 0 ∷ − 1 ∷ []) (− 1) ∷ [];
+      s = pos 0 ∷ pos 1 ∷ [];
+      s0 = − 1;
+      k = pos 1;
+      T = pos 1 ∷ [];
+      k2 = pos 1;
+      H = pos 0 ∷ pos 0 ∷ pos 1 ∷ [];
+      h0 = pos 1;
+      Y = pos 1 ∷ pos 0 ∷ pos 0 ∷ pos 1 ∷ [];
+      Z = pos 0 ∷ pos 1 ∷ pos 0 ∷ pos 0 ∷ [];
+    })
 
 -- loop, bytes, verdict places, rank numbers; the answer, the row and the numbers afterwards
 pub record Line : Type 0 where
@@ -150,6 +169,26 @@ batches =
       ranks = times 4 (pos 77 ∷ []);
     }
     ∷ nothing-changed two-counters-bytes (two-counters-argument-bytes ++ S1) 2 3 (refuses 0 7 4)
+    -- a lasso between two rankings of one loop, each with a rank of its own
+    ∷ record {
+      loopbytes = P;
+      bytes = S1 ++ (lasso-of-P ++ S2);
+      places = 3;
+      numbers = 6;
+      answer = judged 3;
+      row = shows (Ranking (pos 2) (pos 1)) ∷ shows (Lasso (pos 3) (pos 1)) ∷ shows (Ranking (pos 4) (pos 2)) ∷ [];
+      ranks = pos 1 ∷ negsuc 0 ∷ pos 1 ∷ pos 0 ∷ pos 2 ∷ negsuc 1 ∷ [];
+    }
+    -- S10 after its own multipliers without the added row, which are no ranking of its loop, and before S11
+    ∷ record {
+      loopbytes = with-stem;
+      bytes = second-of-P ++ (S10 ++ S11);
+      places = 3;
+      numbers = 6;
+      answer = judged 3;
+      row = refusal-of 2 22 1 ∷ shows (Lasso (pos 0) (pos 1)) ∷ shows (Exclusion Whole) ∷ [];
+      ranks = pos 77 ∷ pos 77 ∷ pos 1 ∷ pos 0 ∷ pos 77 ∷ pos 77 ∷ [];
+    }
     -- 13 tells the count of all records, before any room is asked for
     ∷ nothing-changed P (times 33 S1) 33 66 (refuses 0 13 33)
     ∷ nothing-changed P (times 40 (2 ∷ 0 ∷ 0 ∷ 0 ∷ 2 ∷ 0 ∷ [])) 0 0 (refuses 0 13 40)
@@ -165,7 +204,8 @@ batches =
 
 pub batch-table : Each Holds batches
 unfolding
-    computing batches Each P S1 S2 S7 second-of-P Records.P Records.S1 Records.S7 ranking-bytes ranking-values S1-short curve-bytes
+    computing batches Each P with-stem S1 S2 S7 S10 S11 second-of-P lasso-of-P Records.P Records.S1 Records.S7 Records.S10 loop-bytes
+    ranking-bytes exclusion-bytes lasso-bytes rows-values row-values ranking-values exclusion-values lasso-values S1-short curve-bytes
     curve-settling-bytes curve-exclusion-bytes two-counters-bytes two-counters-argument-bytes
 batch-table =
-    ((refl, refl, refl), ((refl, refl, refl), ((refl, refl, refl), ((refl, refl, refl), ((refl, refl, refl), ((refl, refl, refl), ((refl, refl, refl), ((refl, refl, refl), ((refl, refl, refl), ((refl, refl, refl), ((refl, refl, refl), ((refl, refl, refl), ((refl, refl, refl), ((refl, refl, refl), ((refl, refl, refl), ((refl, refl, refl), ((refl, refl, refl), ((refl, refl, refl), ((refl, refl, refl), tt)))))))))))))))))))
+    ((refl, refl, refl), ((refl, refl, refl), ((refl, refl, refl), ((refl, refl, refl), ((refl, refl, refl), ((refl, refl, refl), ((refl, refl, refl), ((refl, refl, refl), ((refl, refl, refl), ((refl, refl, refl), ((refl, refl, refl), ((refl, refl, refl), ((refl, refl, refl), ((refl, refl, refl), ((refl, refl, refl), ((refl, refl, refl), ((refl, refl, refl), ((refl, refl, refl), ((refl, refl, refl), ((refl, refl, refl), ((refl, refl, refl), tt)))))))))))))))))))))
