@@ -132,7 +132,7 @@ pub fn bounded(name: &[u8], b: Bounded)
 }
 
 // A signed number out of its 64 bits.
-fn bits(x: usize) {
+fn signed_bits(x: usize) {
     if x < 9223372036854775808 {
         number(x);
     } else {
@@ -142,20 +142,20 @@ fn bits(x: usize) {
 }
 
 // A verdict's seven numbers; the fifth and the sixth are signed.
-fn seven(row: &[usize; 7]) {
+fn verdict_numbers(row: &[usize; 7]) {
     word(b",");
     number(row[0]);
     number(row[1]);
     number(row[2]);
     number(row[3]);
-    bits(row[4]);
-    bits(row[5]);
+    signed_bits(row[4]);
+    signed_bits(row[5]);
     number(row[6]);
 }
 
 fn verdicts(rows: &[[usize; 7]]) {
     for i in 0..rows.len() {
-        seven(&rows[i]);
+        verdict_numbers(&rows[i]);
     }
 }
 

@@ -79,7 +79,7 @@ pub fn enter(loopbytes: &[u8], bytes: &[u8], places: usize, numbers: usize) -> B
 
 // ---- one record
 
-// Kinds 3 and 7, and the numbers that no kind has.
+// Kinds 3 and 7, whose judges are functions that are called, and the numbers that no kind has.
 fn judge_others(
     loopbytes: &[u8],
     n: usize,
@@ -100,8 +100,9 @@ fn judge_others(
     }
 }
 
-// Judges a certificate for a loop record of kind 1 that has been checked, as `judge_by_kind` does. Where a ranking is shown the verdict is told in
-// numbers by itself: put together with the others first, it would be read from memory before it is written there (`docs/PERFORMANCE.md`, "A batch").
+// Judges a certificate for a loop record of kind 1 that has been checked, as `judge_by_kind` does. Kinds 2, 4 and 8 tell their verdicts in
+// numbers each by itself: put into one place with the others first, a verdict would be read there before it is written through (`docs/PERFORMANCE.md`,
+// "A batch").
 fn flat_certificate(
     loopbytes: &[u8],
     n: usize,

@@ -15,14 +15,14 @@ abbrev μ-loop : tie.MeasureT-loop
 loop-holds : tie.Need-loop-holds Inv-loop μ-loop
 loop-holds c = search needs
 
-mul-seven : tie.Need-mul-seven Inv-loop μ-loop
-mul-seven c = search needs
+mul-verdict-numbers : tie.Need-mul-verdict-numbers Inv-loop μ-loop
+mul-verdict-numbers c = search needs
 
-shared-slice-element-seven : tie.Need-shared-slice-element-seven Inv-loop μ-loop
-shared-slice-element-seven c = search needs
+shared-slice-element-verdict-numbers : tie.Need-shared-slice-element-verdict-numbers Inv-loop μ-loop
+shared-slice-element-verdict-numbers c = search needs
 
-seven-requires : tie.Need-seven-requires Inv-loop μ-loop
-seven-requires c κs = search needs
+verdict-numbers-requires : tie.Need-verdict-numbers-requires Inv-loop μ-loop
+verdict-numbers-requires c κs = search needs
 
 add-i : tie.Need-add-i Inv-loop μ-loop
 add-i c = search needs
@@ -43,9 +43,9 @@ verdicts-spec =
     Inv-loop
     μ-loop
     loop-holds
-    mul-seven
-    shared-slice-element-seven
-    seven-requires
+    mul-verdict-numbers
+    shared-slice-element-verdict-numbers
+    verdict-numbers-requires
     add-i
     loop-less
     loop-again
