@@ -97,16 +97,15 @@ pub fn judge_list<R: AsRef<[u8]>>(
     let mut in_run = 0;
     for record in records.iter().map(AsRef::as_ref) {
         let whole = is_cut_off_whole(record);
-        if whole {
-            run.extend_from_slice(record);
-            in_run += 1;
-        }
         if !whole || in_run == MOST_RECORDS {
             judged.extend(judge_all(loop_record, &run)?);
             run.clear();
             in_run = 0;
         }
-        if !whole {
+        if whole {
+            run.extend_from_slice(record);
+            in_run += 1;
+        } else {
             judged.push(judge_alone(loop_record, record));
         }
     }
