@@ -14,7 +14,7 @@ use Rattle.whole.specs.Sums.{total}
 use Rattle.whole.proofs.Size.{abs-add, abs-product, back}
 use Rattle.whole.proofs.Solve.{v, _⊕_, _⊝_, _⊗_, solve}
 use Rattle.whole.proofs.Tables.{total-none, total-more, total-same}
-use Rattle.judge_sums.specs.Places.{entryAt, multiplierAt, rowPlace, entryTerm, liftTerm, Lifts, RowAdded, RestStays, nowTerm, nextTerm, AllGrow, AllModest, AllNone, SumsOf, ColumnOf, mostEntry}
+use Rattle.judge_sums.specs.Places.{entryAt, multiplierAt, rowPlace, entryTerm, liftTerm, Lifts, Grown, RowAdded, RestStays, nowTerm, nextTerm, AllGrow, AllModest, AllNone, SumsOf, ColumnOf, mostEntry}
 use Rattle.judge_sums.specs.Running.{CanGrow, SumOf}
 use Rattle.judge_sums.proofs.RunningLaws.{sum-none, sum-more}
 
@@ -27,12 +27,12 @@ passed-grows s h = rw (grown s h) h
 
 -- ---- one row, entry by entry
 
-module _ (multiplier : ℕ) (rows : List ℕ) (row : ℕ) (before : List ℤ) where
-  pub row-none : RowAdded multiplier rows row 0 before before
+module _ (grows : ℕ → ℤ → ℤ → Type 0) (before : List ℤ) where
+  pub row-none : Grown grows 0 before before
   row-none = record { long = refl; added = λ k h. absurd (omega arith); stays = λ k h. refl }
 
-  pub row-more : (k : ℕ) (mid : List ℤ) (value : ℤ) → RowAdded multiplier rows row k before mid → k < length before
-      → Lifts multiplier (entryAt rows (row + 2 * k)) (getD mid k (pos 0)) value → RowAdded multiplier rows row (k + 1) before (set mid k value)
+  pub row-more : (k : ℕ) (mid : List ℤ) (value : ℤ) → Grown grows k before mid → k < length before
+      → grows k (getD mid k (pos 0)) value → Grown grows (k + 1) before (set mid k value)
   row-more k mid value h below more =
       record {
         long = length-set mid k value ∙ h .long;
@@ -48,9 +48,10 @@ module _ (multiplier : ℕ) (rows : List ℕ) (row : ℕ) (before : List ℤ) wh
       }
 
   -- the total that the next entry is added to
-  pub next-grows : (k width : ℕ) (mid : List ℤ) → RowAdded multiplier rows row k before mid → AllGrow width before → k < width → CanGrow (getD mid k (pos 0))
+  pub next-grows : (k width : ℕ) (mid : List ℤ) → Grown grows k before mid → AllGrow width before → k < width → CanGrow (getD mid k (pos 0))
   next-grows k width mid h grow below = rw (h .stays k (omega arith)) (grow k below)
 
+module _ (multiplier : ℕ) (rows : List ℕ) (row : ℕ) (before : List ℤ) where
   -- a row without weight
   pub row-weightless : (width : ℕ) → multiplier ≡ 0 → RowAdded multiplier rows row width before before
   row-weightless width none =
@@ -62,12 +63,15 @@ module _ (multiplier : ℕ) (rows : List ℕ) (row : ℕ) (before : List ℤ) wh
 
 -- ---- all rows
 
--- what stays past the columns: through no row, and through one row more
+-- what stays past the columns: through no row, through one row more, and from one step to the next
 pub rest-none : (width : ℕ) (sums : List ℤ) → RestStays width sums sums
 rest-none width sums = record { long = refl; stays = λ k h. refl }
 
-pub rest-more : {multiplier row width : ℕ} {rows : List ℕ} {first before after : List ℤ} → RestStays width first before → RowAdded multiplier rows row width before after → RestStays width first after
+pub rest-more : {grows : ℕ → ℤ → ℤ → Type 0} {width : ℕ} {first before after : List ℤ} → RestStays width first before → Grown grows width before after → RestStays width first after
 rest-more rest row = record { long = row .long ∙ rest .long; stays = λ k h. row .stays k h ∙ rest .stays k h }
+
+pub rest-on : {width : ℕ} {first before after : List ℤ} → RestStays width first before → RestStays width before after → RestStays width first after
+rest-on rest more = record { long = more .long ∙ rest .long; stays = λ k h. more .stays k h ∙ rest .stays k h }
 
 module _ (multipliers : List ℕ) (place : ℕ) (rows : List ℕ) (start n : ℕ) where
   -- the lifts' total over the first rows
@@ -85,27 +89,37 @@ module _ (multipliers : List ℕ) (place : ℕ) (rows : List ℕ) (start n : ℕ
         each = λ k h. sum-none mostEntry (entryTerm multipliers place rows start n k) (rw (zeros k h, none) refl);
       }
 
-  pub sums-more : (i multiplier at : ℕ) (before after : List ℤ) → SumsOf multipliers place rows start n i before
-      → multiplier ≡ littleAt 2 multipliers (place + 2 * i) → multiplier < 65536 → at ≡ rowPlace start n i
-      → RowAdded multiplier rows at (2 * n) before after → SumsOf multipliers place rows start n (i + 1) after
+  -- one row more: for the lifts' total, for one column's, and for all
+  pub lifts-small : (i multiplier : ℕ) → natAbs (lift i) ≤ i * mostEntry → multiplier ≡ littleAt 2 multipliers (place + 2 * i) → multiplier < 65536
+      → natAbs (lift (i + 1)) ≤ (i + 1) * mostEntry
+  unfolding multiplierAt liftTerm
+  lifts-small i multiplier small read few =
+      rw (lift-more i)
+      (omega (arith, abs-add (lift i) (liftTerm multipliers place i), small, rw read at (abs-product (pos multiplier) (pos 32768) {a = 65535} {b = 32768} (omega arith) (omega arith))))
+
+  pub entry-more : (i multiplier k : ℕ) {before after : ℤ} → SumOf i mostEntry (entryTerm multipliers place rows start n k) (before -ℤ lift i)
+      → multiplier ≡ littleAt 2 multipliers (place + 2 * i) → Lifts multiplier (entryAt rows (rowPlace start n i + 2 * k)) before after
+      → SumOf (i + 1) mostEntry (entryTerm multipliers place rows start n k) (after -ℤ lift (i + 1))
   unfolding multiplierAt entryTerm liftTerm
-  sums-more i multiplier at before after h read few here row =
-      record {
-        lift-small =
-            rw (lift-more i)
-            (omega (arith, abs-add (lift i) (liftTerm multipliers place i), h .lift-small, rw read at (abs-product (pos multiplier) (pos 32768) {a = 65535} {b = 32768} (omega arith) (omega arith))));
-        each =
-            λ k below.
-            sum-more mostEntry (entryTerm multipliers place rows start n k) i (h .each k below)
-            (record {
-              is = rw (lift-more i) (rw (read, here) at (unlifted (getD before k (pos 0)) (getD after k (pos 0)) (pos multiplier) (entryAt rows (at + 2 * k)) (lift i) (row .added k below .is)));
-              small = rw (read, here) at (row .added k below .small);
-            });
-      }
+  entry-more i multiplier k {before} {after} h read more =
+      sum-more mostEntry (entryTerm multipliers place rows start n k) i h
+      (record {
+        is = rw (lift-more i) (rw read at (unlifted before after (pos multiplier) (entryAt rows (rowPlace start n i + 2 * k)) (lift i) (more .is)));
+        small = rw read at (more .small);
+      })
     where
       unlifted : (s r m e l : ℤ) → r ≡ s +ℤ m *ℤ (e +ℤ pos 32768) → r -ℤ (l +ℤ m *ℤ pos 32768) ≡ s -ℤ l +ℤ m *ℤ e
       unlifted s r m e l is =
           rw is (solve ((v s ⊕ v m ⊗ (v e ⊕ v (pos 32768))) ⊝ (v l ⊕ v m ⊗ v (pos 32768))) ((v s ⊝ v l) ⊕ v m ⊗ v e) (omega arith))
+
+  pub sums-more : (i multiplier at : ℕ) (before after : List ℤ) → SumsOf multipliers place rows start n i before
+      → multiplier ≡ littleAt 2 multipliers (place + 2 * i) → multiplier < 65536 → at ≡ rowPlace start n i
+      → RowAdded multiplier rows at (2 * n) before after → SumsOf multipliers place rows start n (i + 1) after
+  sums-more i multiplier at before after h read few here row =
+      record {
+        lift-small = lifts-small i multiplier (h .lift-small) read few;
+        each = λ k below. entry-more i multiplier k (h .each k below) read (rw here at (row .added k below));
+      }
 
   pub sums-size : (count : ℕ) (sums : List ℤ) → SumsOf multipliers place rows start n count sums → (k : ℕ) → k < 2 * n → natAbs (getD sums k (pos 0)) ≤ 2 * (count * mostEntry)
   sums-size count sums h k below =

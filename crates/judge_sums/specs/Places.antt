@@ -87,11 +87,15 @@ pub record Lifts (multiplier : ℕ) (entry before after : ℤ) : Type 0 where
   pub is : after ≡ before +ℤ pos multiplier *ℤ (entry +ℤ pos 32768)
   pub small : natAbs (pos multiplier *ℤ entry) ≤ mostEntry
 
--- each of the first `width` totals takes its entry of the row at a place; the others stay
-pub record RowAdded (multiplier : ℕ) (rows : List ℕ) (row width : ℕ) (before after : List ℤ) : Type 0 where
+-- each of the first `width` totals has become what `grows` says of its column; the others stay, and the list is as long as before
+pub record Grown (grows : ℕ → ℤ → ℤ → Type 0) (width : ℕ) (before after : List ℤ) : Type 0 where
   pub long : length after ≡ length before
-  pub added : (k : ℕ) → k < width → Lifts multiplier (entryAt rows (row + 2 * k)) (getD before k (pos 0)) (getD after k (pos 0))
+  pub added : (k : ℕ) → k < width → grows k (getD before k (pos 0)) (getD after k (pos 0))
   pub stays : (k : ℕ) → width ≤ k → getD after k (pos 0) ≡ getD before k (pos 0)
+
+-- each takes its entry of the row at a place
+abbrev pub RowAdded : ℕ → List ℕ → ℕ → ℕ → List ℤ → List ℤ → Type 0
+RowAdded multiplier rows row = Grown (λ k. Lifts multiplier (entryAt rows (row + 2 * k)))
 
 -- a list is as long as before, and from `width` on it stays
 pub record RestStays (width : ℕ) (before after : List ℤ) : Type 0 where

@@ -138,14 +138,14 @@ pub struct Beside {
 }
 
 impl Beside {
-    fn new() -> Beside
+    pub fn new() -> Beside
         ensures { λ r. ⌜ (r .lift ≡ pos 0) × (r .right ≡ pos 0) ⌝ }
     {
         Beside { lift: 0, right: 0 }
     }
 
     // One row more: its lift, and its right side at a place, each times the multiplier.
-    fn visit(self, multiplier: usize, rows: &[u8], place: usize) -> Beside
+    pub fn visit(self, multiplier: usize, rows: &[u8], place: usize) -> Beside
         requires { ⌜ CanGrow (self .lift) × CanGrow (self .right) × (multiplier < 65536) × (place + 4 ≤ length (now rows)) ⌝ }
         ensures { λ r. ⌜ Sided multiplier (now (rows .entry)) place (self .lift) (self .right) (r .lift) (r .right) ⌝ }
     {

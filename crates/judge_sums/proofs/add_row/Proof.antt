@@ -30,7 +30,7 @@ returns c =
 loop-holds : tie.Need-loop-holds Inv-loop μ-loop
 loop-holds c =
     let a = c .before .before .args in
-    (omega arith, row-none (a .y) (a .rows .now) (a .row) (a .ys .now), row-none (a .z) (a .rows .now) (a .row) (a .zs .now))
+    (omega arith, row-none _ (a .ys .now), row-none _ (a .zs .now))
 
 mul-add-lifted : tie.Need-mul-add-lifted Inv-loop μ-loop
 mul-add-lifted c = search needs
@@ -49,7 +49,7 @@ add-lifted-requires c κs =
     let turn = c .before .before in
     let start = turn .before .before .before in
     let a = start .args in
-    let grows = next-grows (a .y) (a .rows .now) (a .row) (a .ys .now) (turn .loop .k) (a .width) (turn .loop .ys) (turn .loop .inv .1) (start .pre .2) (c .before .loop-test .taken) in
+    let grows = next-grows _ (a .ys .now) (turn .loop .k) (a .width) (turn .loop .ys) (turn .loop .inv .1) (start .pre .2) (c .before .loop-test .taken) in
     (passed-grows (getD (turn .loop .ys) (turn .loop .k) (pos 0)) grows, start .pre .4, omega arith)
 
 mul-zs : tie.Need-mul-zs Inv-loop μ-loop
@@ -75,7 +75,7 @@ add-lifted-requires-2 c κs =
     let turn = c .before .before .before .before in
     let start = turn .before .before .before in
     let a = start .args in
-    let grows = next-grows (a .z) (a .rows .now) (a .row) (a .zs .now) (turn .loop .k) (a .width) (turn .loop .zs) (turn .loop .inv .2) (start .pre .3) (c .before .before .before .loop-test .taken) in
+    let grows = next-grows _ (a .zs .now) (turn .loop .k) (a .width) (turn .loop .zs) (turn .loop .inv .2) (start .pre .3) (c .before .before .before .loop-test .taken) in
     (passed-grows (getD (turn .loop .zs) (turn .loop .k) (pos 0)) grows, start .pre .5, omega arith)
 
 mul-t13 : tie.Need-mul-t13 Inv-loop μ-loop
@@ -100,14 +100,14 @@ loop-again c =
     let a = start .args in
     let k = turn .loop .k in
     let below = inside .loop-test .taken in
-    let ys-grow = next-grows (a .y) (a .rows .now) (a .row) (a .ys .now) k (a .width) (turn .loop .ys) (turn .loop .inv .1) (start .pre .2) below in
-    let zs-grow = next-grows (a .z) (a .rows .now) (a .row) (a .zs .now) k (a .width) (turn .loop .zs) (turn .loop .inv .2) (start .pre .3) below in (
+    let ys-grow = next-grows _ (a .ys .now) k (a .width) (turn .loop .ys) (turn .loop .inv .1) (start .pre .2) below in
+    let zs-grow = next-grows _ (a .zs .now) k (a .width) (turn .loop .zs) (turn .loop .inv .2) (start .pre .3) below in (
       omega arith,
       rw (toZ-ofZ (sfits-of (first .ok)))
-          (row-more (a .y) (a .rows .now) (a .row) (a .ys .now) k (turn .loop .ys) (first .result) (turn .loop .inv .1) (omega arith)
+          (row-more _ (a .ys .now) k (turn .loop .ys) (first .result) (turn .loop .inv .1) (omega arith)
           (rw (grown (getD (turn .loop .ys) k (pos 0)) ys-grow) at (first .ensures))),
       rw (toZ-ofZ (sfits-of (second .ok)))
-          (row-more (a .z) (a .rows .now) (a .row) (a .zs .now) k (turn .loop .zs) (second .result) (turn .loop .inv .2) (omega arith)
+          (row-more _ (a .zs .now) k (turn .loop .zs) (second .result) (turn .loop .inv .2) (omega arith)
           (rw (grown (getD (turn .loop .zs) k (pos 0)) zs-grow) at (second .ensures))),
     )
 

@@ -18,7 +18,7 @@ abbrev μ-loop : tie.MeasureT-loop
 μ-loop sums₀ multiplier rows row width k₀ sums k = width - k
 
 loop-holds : tie.Need-loop-holds Inv-loop μ-loop
-loop-holds c = let a = c .before .args in (omega arith, row-none (a .multiplier) (a .rows .now) (a .row) (a .sums .now))
+loop-holds c = let a = c .before .args in (omega arith, row-none _ (a .sums .now))
 
 mul-add-lifted : tie.Need-mul-add-lifted Inv-loop μ-loop
 mul-add-lifted c = search needs
@@ -37,7 +37,7 @@ add-lifted-requires c κs =
     let turn = c .before .before in
     let start = turn .before .before in
     let a = start .args in
-    let grows = next-grows (a .multiplier) (a .rows .now) (a .row) (a .sums .now) (turn .loop .k) (a .width) (turn .loop .sums) (turn .loop .inv .1) (start .pre .1) (c .before .loop-test .taken) in
+    let grows = next-grows _ (a .sums .now) (turn .loop .k) (a .width) (turn .loop .sums) (turn .loop .inv .1) (start .pre .1) (c .before .loop-test .taken) in
     (passed-grows (getD (turn .loop .sums) (turn .loop .k) (pos 0)) grows, start .pre .2, omega arith)
 
 mul-t14 : tie.Need-mul-t14 Inv-loop μ-loop
@@ -60,10 +60,10 @@ loop-again c =
     let start = turn .before .before in
     let a = start .args in
     let k = turn .loop .k in
-    let grows = next-grows (a .multiplier) (a .rows .now) (a .row) (a .sums .now) k (a .width) (turn .loop .sums) (turn .loop .inv .1) (start .pre .1) (inside .loop-test .taken) in (
+    let grows = next-grows _ (a .sums .now) k (a .width) (turn .loop .sums) (turn .loop .inv .1) (start .pre .1) (inside .loop-test .taken) in (
       omega arith,
       rw (toZ-ofZ (sfits-of (called .ok)))
-          (row-more (a .multiplier) (a .rows .now) (a .row) (a .sums .now) k (turn .loop .sums) (called .result) (turn .loop .inv .1) (omega arith)
+          (row-more _ (a .sums .now) k (turn .loop .sums) (called .result) (turn .loop .inv .1) (omega arith)
           (rw (grown (getD (turn .loop .sums) k (pos 0)) grows) at (called .ensures))),
     )
 
