@@ -1,3 +1,4 @@
 pub mod ColumnTests
 pub mod RankedLaws
+pub mod RankingSums
 pub mod RankingTotals

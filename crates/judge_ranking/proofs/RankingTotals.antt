@@ -28,5 +28,5 @@ totalled rows certificate start n m place ys ylift zs zlift few y y-lift z z-lif
     )
 
 -- a list of zeros to start from
-pub zeros : (width : ℕ) → width ≤ 32 → AllNone width (replicate 32 (pos 0))
-zeros width few k below = getD-replicate 32 k (pos 0) (pos 0) (omega arith)
+pub zeros : {long : ℕ} (width : ℕ) → width ≤ long → AllNone width (replicate long (pos 0))
+zeros {long = long} width wide k below = getD-replicate long k (pos 0) (pos 0) (omega arith)

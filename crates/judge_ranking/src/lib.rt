@@ -1,5 +1,5 @@
 // What a ranking's conditions tell (01, "Conditions": YA' = 0; (Y - Z)A = 0; Z(A + A') = 0; Zb < 0), from the bytes of sound records,
-// and what it shows where they hold. All but `ranking` speak of totals alone, so they serve every ranking: that of kind 2, and one over
+// and what it shows where they hold. All but the last four speak of totals alone, so they serve every ranking: that of kind 2, and one over
 // a longer loop.
 ghost use mathlib.Core.Path.{_≡_};
 ghost use Prim.Native.Nat.{_+_, _*_, _≤_, _<_};
@@ -189,8 +189,73 @@ pub fn by_totals(
     }
 }
 
-// Kind 2: the totals in one visit of each row, and what they tell.
-pub fn ranking(
+// The totals of a ranking over one or two variables, in one visit of each row, and what they tell. Lists as short as can be are quickly cleared, and
+// their loops unrolled: that is why there are three of these (`docs/PERFORMANCE.md`, "A ranking's totals").
+fn over_two(
+    rows: &[u8],
+    start: usize,
+    n: usize,
+    m: usize,
+    certificate: &[u8],
+    rank: &mut [i64],
+) -> Ranked
+    requires { ⌜ RowsIn (now rows) start n m × (n ≤ 2) × (m ≤ 64) × MultipliersIn (now certificate) (6 + 2 * m) m
+        × (n ≤ length (now rank)) ⌝ }
+    ensures { λ r. ⌜ RankingBy r (loop-held (now (rows .entry)) start n m) (ranking-held (now (certificate .entry)) 6 m)
+        (now (rank .entry)) (now (rank .exit)) ⌝ }
+{
+    let z = 6 + 2 * m;
+    let mut ys = [0i64; 4];
+    let mut zs = [0i64; 4];
+    let beside = judge_sums::add_rows(&mut ys, &mut zs, rows, start, n, certificate, 6, z, m);
+    let under_y = beside.y;
+    let under_z = beside.z;
+    let fault = columns_fault(&ys, &zs, n, under_y.lift, under_z.lift);
+    by_totals(
+        fault,
+        &zs,
+        n,
+        under_z.lift,
+        under_y.right,
+        under_z.right,
+        rank,
+    )
+}
+
+// The same over up to four variables.
+fn over_four(
+    rows: &[u8],
+    start: usize,
+    n: usize,
+    m: usize,
+    certificate: &[u8],
+    rank: &mut [i64],
+) -> Ranked
+    requires { ⌜ RowsIn (now rows) start n m × (n ≤ 4) × (m ≤ 64) × MultipliersIn (now certificate) (6 + 2 * m) m
+        × (n ≤ length (now rank)) ⌝ }
+    ensures { λ r. ⌜ RankingBy r (loop-held (now (rows .entry)) start n m) (ranking-held (now (certificate .entry)) 6 m)
+        (now (rank .entry)) (now (rank .exit)) ⌝ }
+{
+    let z = 6 + 2 * m;
+    let mut ys = [0i64; 8];
+    let mut zs = [0i64; 8];
+    let beside = judge_sums::add_rows(&mut ys, &mut zs, rows, start, n, certificate, 6, z, m);
+    let under_y = beside.y;
+    let under_z = beside.z;
+    let fault = columns_fault(&ys, &zs, n, under_y.lift, under_z.lift);
+    by_totals(
+        fault,
+        &zs,
+        n,
+        under_z.lift,
+        under_y.right,
+        under_z.right,
+        rank,
+    )
+}
+
+// The same over up to sixteen variables; of many rows, four at once where they have weight (`judge_fours`).
+fn over_many(
     rows: &[u8],
     start: usize,
     n: usize,
@@ -206,7 +271,7 @@ pub fn ranking(
     let z = 6 + 2 * m;
     let mut ys = [0i64; 32];
     let mut zs = [0i64; 32];
-    let beside = judge_sums::add_rows(&mut ys, &mut zs, rows, start, n, certificate, 6, z, m);
+    let beside = judge_fours::add_rows(&mut ys, &mut zs, rows, start, n, certificate, 6, z, m);
     let under_y = beside.y;
     let under_z = beside.z;
     let fault = columns_fault(&ys, &zs, n, under_y.lift, under_z.lift);
@@ -219,4 +284,27 @@ pub fn ranking(
         under_z.right,
         rank,
     )
+}
+
+// Kind 2: the totals, and what they tell.
+pub fn ranking(
+    rows: &[u8],
+    start: usize,
+    n: usize,
+    m: usize,
+    certificate: &[u8],
+    rank: &mut [i64],
+) -> Ranked
+    requires { ⌜ RowsIn (now rows) start n m × (n ≤ 16) × (m ≤ 64) × MultipliersIn (now certificate) (6 + 2 * m) m
+        × (n ≤ length (now rank)) ⌝ }
+    ensures { λ r. ⌜ RankingBy r (loop-held (now (rows .entry)) start n m) (ranking-held (now (certificate .entry)) 6 m)
+        (now (rank .entry)) (now (rank .exit)) ⌝ }
+{
+    if n <= 2 {
+        return over_two(rows, start, n, m, certificate, rank);
+    }
+    if n <= 4 {
+        return over_four(rows, start, n, m, certificate, rank);
+    }
+    over_many(rows, start, n, m, certificate, rank)
 }
