@@ -1,5 +1,6 @@
 // Where the numbers of a body are out of range. Each run of equal fields has two loops, which test the bytes where they stand, one
-// comparison a field: one says whether all are in range, several at a time; the other tells the place of the first that is not.
+// comparison a field: one says whether all are in range, several at a time; the other tells the place of the first that is not. A short
+// run of multipliers is walked by the second alone.
 ghost use Prim.Native.Nat.{_+_, _*_, _≤_};
 ghost use mathlib.Core.Path.{_≡_};
 ghost use mathlib.Core.Bool.{_&&_};
@@ -140,7 +141,7 @@ fn field_fits(bytes: &[u8], place: usize, run: RunOf) -> bool
     }
 }
 
-// One field after another: of a run that has a fault, so this is seldom called.
+// One field after another: of a run that has a fault, or of a short one.
 fn first_out(bytes: &[u8], place: usize, count: usize, run: RunOf) -> usize
     requires { ⌜ place + count * wide-of run ≤ length (now bytes) ⌝ }
     ensures { λ r. ⌜ r ≡ fault (replicate count (field-of run)) (now (bytes .entry)) place ⌝ }
@@ -180,10 +181,14 @@ pub fn directions_fault(bytes: &[u8], place: usize, count: usize) -> usize
     }
 }
 
+// Up to eight are walked at once: testing several at a time takes as long before the first is tested.
 pub fn multipliers_fault(bytes: &[u8], place: usize, count: usize) -> usize
     requires { ⌜ place + count * 2 ≤ length (now bytes) ⌝ }
     ensures { λ r. ⌜ r ≡ fault (replicate count multiplier) (now (bytes .entry)) place ⌝ }
 {
+    if count <= 8 {
+        return first_out(bytes, place, count, RunOf::Multipliers);
+    }
     if multipliers_fit(bytes, place, count) {
         place + 2 * count
     } else {
