@@ -1,4 +1,5 @@
--- Where record i of bytes end to end starts: the bytes from there on hold the records from i on.
+-- Where record i of bytes end to end starts: the bytes from there on hold the records from i on. And what a record takes by the length that it
+-- states.
 use mathlib.Core.Path.{_≡_, refl, sym, ap, _∙_}
 use Prim.Native.Nat.{ℕ, zero, suc, _+_, _≤_, _<_}
 use mathlib.Core.List.{List, [], _∷_}
@@ -7,9 +8,10 @@ use lib.Dec.{leb}
 use lib.ListN.{length, getD, drop, length-drop, drop-of-length-le}
 use lib.Seq.{drop-drop, drop-nil, getD-drop}
 use borrow.Author.Tests.{leb-true, leb-false}
+use Rattle.endian.specs.Numbers.{littleAt}
 use Rattle.refusal.proofs.TestLaws.{either}
-use Rattle.record_parting.specs.Parting.{taken, first-record, after-first, records}
-use Rattle.record_parting.proofs.PartingLaws.{taken-within, records-none, records-more}
+use Rattle.record_parting.specs.Parting.{stated, taken, first-record, after-first, records}
+use Rattle.record_parting.proofs.PartingLaws.{taken-within, taken-whole, records-none, records-more}
 
 abbrev pub place-of : List ℕ → ℕ → ℕ
 place-of bytes zero = 0
@@ -65,3 +67,14 @@ module _ (bytes : List ℕ) where
       let left = drop from bytes in
       ap length (records-more left (omega (arith, length-drop from bytes)))
       ∙ ap (λ rest. suc (length (records rest))) (drop-drop (taken left) from bytes ∙ ap (λ k. drop k bytes) (sym is))
+
+-- what a record at a place states, and that it takes as many bytes, if they are there
+stated-at : (bytes : List ℕ) (at : ℕ) → stated (drop at bytes) ≡ littleAt 4 bytes at
+unfolding stated littleAt
+stated-at bytes at = refl
+
+pub takes-size : (bytes : List ℕ) (at size : ℕ) → 4 + littleAt 4 bytes at ≡ size → 6 ≤ size → at + size ≤ length bytes → taken (drop at bytes) ≡ size
+takes-size bytes at size states six there =
+    let says = stated-at bytes at in
+    let left = length-drop at bytes in
+    taken-whole (drop at bytes) (omega (arith, left)) (omega (arith, says)) (omega (arith, left, says)) ∙ rw says states
