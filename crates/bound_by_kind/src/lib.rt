@@ -1,5 +1,7 @@
 // Bound: how many steps a loop can take from a state, by a certificate that has a rank; of a certificate of kind 8, how many at the most
 // are taken from states before its threshold (02, Q-8). Every input has an answer.
+#![tactic(auto)]
+
 ghost use Rattle.std.specs.Prelude.{◌≡◌, cond, ◌+◌, ◌*◌, ◌≤◌, ◌<◌, nat_abs, ◌-ℤ◌, length};
 ghost use Rattle.std.specs.Int.Signed.{lt_z};
 ghost use Rattle.endian.specs.Numbers.{little_at};

@@ -1,5 +1,7 @@
 // Bound by a short ranking (kind 7): it becomes the kind 2 record that it stands for, in a buffer of its own, and then the one bound tells
 // the steps.
+#![tactic(auto)]
+
 ghost use Rattle.std.specs.Prelude.{◌≡◌, true};
 ghost use Rattle.judge.specs.SoundPairs.{LoopSound};
 ghost use Rattle.verdict_short.specs.ShortJudging.{of_short, bounded_or_short};

@@ -11,6 +11,8 @@
 //     NAME: bound LOOP CERTIFICATE ENTRY ..      tells the bound at a state
 //
 // Bytes are pairs of hexadecimal digits, `-` for none; numbers are decimal. A name ends in its first colon. A line that starts with `#` is a comment.
+#![tactic(auto)]
+
 ghost use Rattle.std.specs.Prelude.{◌≤◌, ◌<◌, ◌≡◌, length};
 
 // Room for the text of the cases.

@@ -1,16 +1,18 @@
 // What stands in the line of a case: numbers, bytes and where they end; and the front of a list, as long as a case asks. Bytes are pairs of
 // hexadecimal digits, numbers are decimal, and one blank parts two words.
+#![tactic(auto)]
+
 ghost use Rattle.std.specs.Prelude.{◌≤◌, ◌<◌, length};
 
 // A place in a line, and the number that stands before it.
-#[derive(Drop)]
+#[derive(Clone, Copy)]
 pub struct Number {
     pub at: usize,
     pub size: u64,
 }
 
 // A place in a line, and how many bytes or values stand before it.
-#[derive(Drop)]
+#[derive(Clone, Copy)]
 pub struct Filled {
     pub at: usize,
     pub count: usize,

@@ -1,5 +1,7 @@
 // Prints what the calls answer, a line each: of a reading or a writing its numbers; of judging and bound number, place, record, outcome, and the
 // rank list afterwards or the bound. The programs that are held to stored output share it.
+#![tactic(auto)]
+
 ghost use Rattle.std.specs.Prelude.{◌≡◌};
 
 use libc::STDERR_FILENO;

@@ -1,6 +1,8 @@
 // Decimal numbers: the functions in which a number becomes text, as specs/Decimals.antt says. Each writes at a place of a room that
 // has enough left, and returns the place after its text; specs/Rooms.antt says what the room holds then. Nothing is allocated: the
 // digits are counted first, and then put at their places from the last to the first.
+#![tactic(auto)]
+
 ghost use Rattle.std.specs.Prelude.{◌+◌, ◌≤◌, ◌≡◌, pos, nat_abs, ◌<ℤ◌, length};
 ghost use Rattle.decimal.specs.Decimals.{decimal, signed_decimal};
 ghost use Rattle.decimal.specs.Rooms.{Puts};

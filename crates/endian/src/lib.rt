@@ -3,6 +3,8 @@
 // that no caller meets a byte's bits. A sign is taken by a remainder and not by a comparison, and
 // the remainder is by a number written out: so i16_at and i32_at compile to one load that extends
 // the sign.
+#![tactic(auto)]
+
 ghost use Rattle.std.specs.Prelude.{◌+◌, ◌*◌, ◌%◌, ◌≤◌, ◌<◌, ◌≡◌, ◌++◌, pos, nat_abs, ◌+ℤ◌, ◌-ℤ◌, length, take, drop};
 ghost use Rattle.std.specs.Int.Signed.{mag};
 ghost use Rattle.endian.specs.Numbers.{little_at, digits, signed, unsigned};

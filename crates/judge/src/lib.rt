@@ -1,5 +1,7 @@
 // Certificates of kinds 2 to 4 for a loop of kind 1 that has been checked: whether their bytes prove what they claim of it. A refusal changes
 // nothing that was lent.
+#![tactic(auto)]
+
 ghost use Rattle.std.specs.Prelude.{◌≡◌, ℤ, List, length, ◌+◌, ◌*◌, ◌≤◌, ◌<◌};
 ghost use Rattle.endian.specs.Numbers.{little_at};
 ghost use Rattle.judge_exclusion.specs.ExclusionHeld.{exclusion_held};

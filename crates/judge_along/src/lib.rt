@@ -1,6 +1,8 @@
 // The sums along a row and at a state, taken straight from the bytes of the records. Each is a running
 // sum (`Total`) that takes one column after another; totals that meet the same entry share its visit.
 // Every total comes with its size, so that a caller may add to it.
+#![tactic(auto)]
+
 ghost use Rattle.std.specs.Prelude.{◌+◌, ◌*◌, ◌≤◌, ◌<◌, ◌≡◌, nat_abs, ◌*ℤ◌, length};
 ghost use Rattle.whole.specs.Sums.{dot, Within};
 ghost use Rattle.judge_sums.specs.Places.{entry_at, right_at};
@@ -21,7 +23,7 @@ fn add_product(total: Total, rows: &[u8], entry: usize, certificate: &[u8], plac
 }
 
 // One row's totals under an exclusion: A.V, A'·U, A.W and A'·W.
-#[derive(Drop)]
+#[derive(Clone, Copy)]
 struct RowTotals {
     v: Total,
     u: Total,
@@ -92,7 +94,7 @@ fn row_of(rows: &[u8], row: usize, n: usize, certificate: &[u8], place: usize) -
 }
 
 // The left sides of an exclusion's two conditions at one row.
-#[derive(Drop)]
+#[derive(Clone, Copy)]
 pub struct LeftSides {
     pub direction: i64,
     pub step: i64,

@@ -1,5 +1,7 @@
 // A job's certificates at once: the loop is checked once, the room is asked for before anything is judged, and then each record is judged in turn
 // with its stretch of the rank numbers.
+#![tactic(auto)]
+
 ghost use Rattle.std.specs.Prelude.{◌+◌, ◌*◌, ◌-◌, ◌≤◌, ◌≡◌, length, take, drop};
 ghost use Rattle.refusal.specs.Faults.{fault_of};
 ghost use Rattle.refusal.specs.Tests.{done};

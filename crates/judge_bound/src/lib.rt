@@ -1,4 +1,6 @@
 // How many steps a loop of kind 1 that has been checked can take from a state, by a certificate of kind 2 or 4.
+#![tactic(auto)]
+
 ghost use Rattle.std.specs.Prelude.{◌≡◌, cond, ◌+◌, ◌/◌, ◌<◌, ◌≤◌, pos, nat_abs, ◌-ℤ◌, ◌<ℤ◌, length, take};
 ghost use Rattle.std.specs.Int.Signed.{lt_z};
 ghost use Rattle.whole.specs.Sums.{Within};

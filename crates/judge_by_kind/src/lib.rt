@@ -1,5 +1,7 @@
 // The judge: whether a certificate's bytes prove what they claim of a loop's bytes, by the records' kinds. Every input has an answer; a
 // refusal changes nothing that was lent.
+#![tactic(auto)]
+
 ghost use Rattle.std.specs.Prelude.{◌≡◌};
 ghost use Rattle.endian.specs.Numbers.{little_at};
 ghost use Rattle.record_check.specs.Checks.{Framed};

@@ -1,5 +1,7 @@
 // What the conditions of every kind share (01, "Conditions"): the loop that bytes hold, the totals as sums of the theory, a product, a
 // negation, and where a condition fails first.
+#![tactic(auto)]
+
 ghost use Rattle.std.specs.Prelude.{◌≡◌, Bool, ℕ, ◌+◌, ◌≤◌, ◌<◌, pos, nat_abs, neg_ℤ, ◌*ℤ◌};
 ghost use Rattle.refusal.specs.Places.{before_failing};
 

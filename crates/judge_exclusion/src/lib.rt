@@ -1,6 +1,8 @@
 // What an exclusion's conditions tell (01, "Conditions": at every row A·V + A'·U <= 0; then at every row A·(W - V) + A'·W <= q·b), from
 // the bytes of sound records. Each row is visited once: the first that fails the direction ends the walk, and the first that fails the
 // step is remembered.
+#![tactic(auto)]
+
 ghost use Rattle.std.specs.Prelude.{◌≡◌, ◌+◌, ◌*◌, ◌≤◌, length};
 ghost use Rattle.refusal.specs.Faults.{fault_of};
 ghost use Rattle.theory.specs.Conditions.{exclusion_told};
@@ -12,7 +14,7 @@ ghost use Rattle.judge_exclusion.specs.ExclusionHeld.{stays, meets, exclusion_he
 use refusal::Fault;
 
 // Whether the two conditions hold at one row.
-#[derive(Drop)]
+#[derive(Clone, Copy)]
 struct RowHolds {
     direction: bool,
     step: bool,

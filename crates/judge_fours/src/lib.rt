@@ -1,6 +1,8 @@
 // The totals of `judge_sums::add_rows`, for sixteen rows or more: where four rows one after another have weight they are added at once, so
 // that a column's totals are fetched and put back once for the four. A row without weight costs the reading of its two multipliers and no
 // more (`docs/PERFORMANCE.md`, "A ranking's totals").
+#![tactic(auto)]
+
 ghost use Rattle.std.specs.Prelude.{◌+◌, ◌*◌, ◌≤◌, ◌<◌, true, ◌≡◌, length, ltb};
 ghost use Rattle.endian.specs.Numbers.{little_at};
 ghost use Rattle.judge_sums.specs.Places.{RowAdded, RestStays, AllGrow, AllModest, AllNone, Sided, SumsOf, RowsIn, MultipliersIn, BesideOf, most_entry, most_right};
@@ -10,7 +12,7 @@ ghost use Rattle.judge_fours.specs.Fours.{FourAt, FourSmall, LiftsFour, FourAdde
 use judge_sums::{Beside, Besides};
 
 // Four multipliers, one after another.
-#[derive(Drop)]
+#[derive(Clone, Copy)]
 struct Four {
     first: usize,
     second: usize,
@@ -160,7 +162,7 @@ fn take_four(
 }
 
 // How many rows were taken, and what stands beside the columns then.
-#[derive(Drop)]
+#[derive(Clone, Copy)]
 struct Taken {
     rows: usize,
     beside: Besides,

@@ -1,5 +1,7 @@
 // The grade of what an exclusion shows (02, Q-7): whether q divides every entry of W and of V, from the bytes of a sound record, so that
 // the step it gives is one between whole numbers.
+#![tactic(auto)]
+
 ghost use Rattle.std.specs.Prelude.{◌≡◌, ◌+◌, ◌*◌, ◌≤◌, ◌<◌, nat_abs, length};
 ghost use Rattle.endian.specs.Numbers.{little_at};
 ghost use Rattle.theory.specs.Exclusions.{divides, all_divided, step_is_whole};

@@ -1,1 +1,2 @@
 // What bytes hold by places: laws, no code. The judges of every kind read their records by places.
+#![tactic(auto)]

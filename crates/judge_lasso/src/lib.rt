@@ -1,5 +1,7 @@
 // What a lasso's conditions tell (01, "Lasso": start, kept, and the ranking over the loop with the added row -s·x <= s0), from the bytes of
 // sound records, and what it shows where they hold.
+#![tactic(auto)]
+
 ghost use Rattle.std.specs.Prelude.{◌≡◌, ◌+◌, ◌*◌, ◌≤◌, ◌<◌, pos, neg_ℤ, nat_abs, ◌-ℤ◌, ◌*ℤ◌, length};
 ghost use Rattle.refusal.specs.Faults.{fault_of};
 ghost use Rattle.theory.specs.Conditions.{weighed_told};

@@ -1,5 +1,7 @@
 // A ranking over a loop with one row added at the end (01, "Lasso"): the loop's totals, and the added row's terms. The row is -s·x <=
 // right: minus the entries that lie from a place on, and a right side, which comes as a value (s0 of a lasso).
+#![tactic(auto)]
+
 ghost use Rattle.std.specs.Prelude.{◌≡◌, ◌+◌, ◌*◌, ◌≤◌, ◌<◌, pos, nat_abs, ◌+ℤ◌, ◌-ℤ◌, ◌*ℤ◌, length};
 ghost use Rattle.judge_sums.specs.Places.{RowsIn, AllModest};
 ghost use Rattle.judge_sums.specs.Running.{CanGrow, Modest};

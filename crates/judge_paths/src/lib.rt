@@ -1,5 +1,7 @@
 // What the conditions of a lexicographic argument tell (02, Q-3), straight from the bytes of sound records of kinds 5 and 6: path by path
 // 51, 52 or 53, each a law of weighted rows over the path's own rows.
+#![tactic(auto)]
+
 ghost use Rattle.std.specs.Prelude.{◌+◌, ◌*◌, ◌≤◌, ◌<◌, ◌≡◌, ◌&&◌, pos, nat_abs, neg_ℤ, length};
 ghost use Rattle.judge_sums.specs.Places.{AllModest};
 ghost use Rattle.judge_sums.specs.Running.{CanGrow, Modest};
@@ -58,7 +60,7 @@ fn columns_hold(
 
 // What weighted rows are held to: their multipliers stand at `list`, r at `r`; over A they are to weigh -r, over A' next times r, and their
 // right sides no more than the limit.
-#[derive(Drop)]
+#[derive(Clone, Copy)]
 struct Held {
     list: usize,
     r: usize,
@@ -93,7 +95,7 @@ fn weighs(rows: &[u8], row: usize, n: usize, m: usize, certificate: &[u8], held:
 }
 
 // Two answers.
-#[derive(Drop)]
+#[derive(Clone, Copy)]
 struct Two {
     first: bool,
     second: bool,

@@ -1,6 +1,8 @@
 // What a ranking's conditions tell (01, "Conditions": YA' = 0; (Y - Z)A = 0; Z(A + A') = 0; Zb < 0), from the bytes of sound records,
 // and what it shows where they hold. All but the last four speak of totals alone, so they serve every ranking: that of kind 2, and one over
 // a longer loop.
+#![tactic(auto)]
+
 ghost use Rattle.std.specs.Prelude.{◌≡◌, ◌+◌, ◌*◌, ◌≤◌, ◌<◌, ℤ, pos, nat_abs, neg_ℤ, ◌-ℤ◌, length, get_or, drop, List, ◌++◌};
 ghost use Rattle.refusal.specs.Faults.{fault_of};
 ghost use Rattle.whole.specs.Sums.{tabulate};
@@ -14,7 +16,7 @@ use refusal::Fault;
 
 // A ranking's answer: number 0 with start and fall where its conditions hold; otherwise the number and place of the first that fails. Start and
 // fall stand apart: side by side, they would be loaded as one, which waits for the two stores (`docs/PERFORMANCE.md`, "A batch").
-#[derive(Drop)]
+#[derive(Clone, Copy)]
 pub struct Ranked {
     pub number: usize,
     pub start: i64,
@@ -31,7 +33,7 @@ pub fn unlifted(sums: &[i64], k: usize, lift: i64) -> i64
 }
 
 // Whether the first three conditions hold at one column.
-#[derive(Drop)]
+#[derive(Clone, Copy)]
 struct ColumnHolds {
     first: bool,
     second: bool,

@@ -1,5 +1,7 @@
 // A batch for callers in other languages, to whom an outcome cannot cross as it is: the caller's row has seven numbers for each verdict, in the
 // order of the fields that a single verdict has at the door.
+#![tactic(auto)]
+
 ghost use Rattle.std.specs.Prelude.{◌≡◌, length};
 ghost use Rattle.verdict_batch.specs.Batches.{batch_of, batch_answers, ranks_after};
 ghost use Rattle.judge_rows.specs.VerdictRows.{word, row_of, rows_after};

@@ -1,5 +1,7 @@
 // What a settling's conditions tell (02, Q-8: the rise, and the ranking over the loop with the added row -g·x <= -t), from the bytes of
 // sound records, and what it shows where they hold.
+#![tactic(auto)]
+
 ghost use Rattle.std.specs.Prelude.{◌≡◌, ◌≤◌, length};
 ghost use Rattle.refusal.specs.Faults.{fault_of};
 ghost use Rattle.theory.specs.Conditions.{weighed_told};

@@ -1,5 +1,7 @@
 // Certificates for a loop of kind 1 that has been checked: a short ranking (kind 7) becomes the kind 2 record that it stands for, in a
 // buffer of its own, and then the one judge decides; every other kind goes to the judge as it is.
+#![tactic(auto)]
+
 ghost use Rattle.std.specs.Prelude.{◌≡◌, true, ◌&&◌, leb, length};
 ghost use Rattle.judge.specs.SoundPairs.{LoopSound};
 ghost use Rattle.verdict_short.specs.ShortJudging.{of_short, judged_or_short, ranked_or_short};

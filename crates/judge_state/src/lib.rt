@@ -1,4 +1,6 @@
 // The tests of a state (01, "Numbers of the verdict": 10, then 9), for every call that takes one.
+#![tactic(auto)]
+
 ghost use Rattle.std.specs.Prelude.{◌≡◌};
 ghost use Rattle.refusal.specs.Faults.{fault_of};
 ghost use Rattle.refusal.specs.Tests.{first};

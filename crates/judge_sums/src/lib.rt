@@ -6,6 +6,8 @@
 //
 // `count` rows over n variables lie in `rows` from `start` on, and as many multipliers in
 // `multipliers` from a place on. Every total comes with its size, so that a caller may add to it.
+#![tactic(auto)]
+
 ghost use Rattle.std.specs.Prelude.{◌+◌, ◌*◌, ◌≤◌, ◌<◌, ◌≡◌, pos, ◌*ℤ◌, length};
 ghost use Rattle.judge_sums.specs.Places.{entry_at, right_at, right_term, Lifts, RowAdded, RestStays, AllGrow, AllNone, SumsOf, RowsIn, MultipliersIn, Visited, ColumnOf, Sided, BesideOf, most_entry, most_right};
 ghost use Rattle.judge_sums.specs.Running.{CanGrow, Adds, SumOf};
@@ -29,7 +31,7 @@ pub fn add_right(total: Total, multiplier: usize, rows: &[u8], place: usize) -> 
 }
 
 // One column's totals under one list of multipliers: over A, and over A'.
-#[derive(Drop)]
+#[derive(Clone, Copy)]
 pub struct Column {
     pub now: Total,
     pub next: Total,
@@ -131,7 +133,7 @@ pub fn add_row(
 
 // What one list of multipliers comes to beside the columns: the lifts, which each column's total has
 // too much, and the right sides.
-#[derive(Drop)]
+#[derive(Clone, Copy)]
 pub struct Beside {
     pub lift: i64,
     pub right: i64,
@@ -161,7 +163,7 @@ impl Beside {
 }
 
 // The same under two lists of multipliers.
-#[derive(Drop)]
+#[derive(Clone, Copy)]
 pub struct Besides {
     pub y: Beside,
     pub z: Beside,

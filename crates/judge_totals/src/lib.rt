@@ -1,6 +1,8 @@
 // The totals of all columns under one list of multipliers or under two, with those of the lifts and of the right sides beside them. Each
 // row is visited once, its entries several at a time, and for two lists its entries are read once for both; a multiplier of 0 costs its
 // reading.
+#![tactic(auto)]
+
 ghost use Rattle.std.specs.Prelude.{◌+◌, ◌*◌, ◌≤◌, ◌<◌, ◌≡◌, pos, ◌*ℤ◌, length};
 ghost use Rattle.judge_sums.specs.Places.{RowAdded, AllGrow, AllNone, RowsIn, MultipliersIn, most_entry};
 ghost use Rattle.judge_sums.specs.Running.{CanGrow, Adds};
@@ -9,14 +11,14 @@ ghost use Rattle.judge_totals.specs.Visits.{RowVisited, TotalsOf};
 use whole::Total;
 
 // The totals beside the columns': of the lifts, and of the right sides.
-#[derive(Drop)]
+#[derive(Clone, Copy)]
 pub struct Beside {
     pub lift: Total,
     pub right: Total,
 }
 
 // The same under two lists of multipliers.
-#[derive(Drop)]
+#[derive(Clone, Copy)]
 pub struct BesideTwo {
     pub y: Beside,
     pub z: Beside,

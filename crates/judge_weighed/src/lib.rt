@@ -1,6 +1,8 @@
 // What rows with weights tell of what they are held to (theory/specs/WeightedRows.antt): over A they sum to one multiple of v, over A' to
 // another, column by column, and their right sides to no more than a limit. Start and kept of a lasso are two uses of it. The bytes are
 // those of sound records; the first column that fails over A ends the walk, and the first that fails over A' is remembered.
+#![tactic(auto)]
+
 ghost use Rattle.std.specs.Prelude.{◌≡◌, ◌+◌, ◌*◌, ◌≤◌, ◌<◌, ℤ, nat_abs, ◌*ℤ◌, length};
 ghost use Rattle.refusal.specs.Faults.{fault_of};
 ghost use Rattle.theory.specs.Conditions.{weighed_told};
@@ -18,7 +20,7 @@ fn times_entry(factor: i64, entry: i64) -> i64
 }
 
 // Whether one column's sums are what they are held to: over A, and over A'.
-#[derive(Drop)]
+#[derive(Clone, Copy)]
 struct ColumnHolds {
     now: bool,
     next: bool,

@@ -1,7 +1,8 @@
 // Records on file: which kinds a call wants, and what a reading and a writing answer.
+#![tactic(auto)]
 
 // The kinds of certificate that a call wants, 2 to 4; any other kind gives 4.
-#[derive(Drop)]
+#[derive(Clone, Copy)]
 pub struct Wanted {
     pub ranking: bool,
     pub exclusion: bool,
@@ -9,7 +10,7 @@ pub struct Wanted {
 }
 
 // A reading's answer. On a refusal all but number and place are 0.
-#[derive(Drop)]
+#[derive(Clone, Copy)]
 pub struct Reading {
     pub number: usize,
     pub place: usize,
@@ -20,7 +21,7 @@ pub struct Reading {
 }
 
 // A writing's answer. On a refusal all but number and place are 0.
-#[derive(Drop)]
+#[derive(Clone, Copy)]
 pub struct Writing {
     pub number: usize,
     pub place: usize,

@@ -1,4 +1,6 @@
 // Whether bytes are a sound record: 01's "Order for a record" without a list to fill. A record is visited once and never copied.
+#![tactic(auto)]
+
 ghost use Rattle.std.specs.Prelude.{◌≡◌, true, false, []};
 ghost use Rattle.endian.specs.Numbers.{little_at};
 ghost use Rattle.refusal.specs.Tests.{first};
@@ -10,7 +12,7 @@ ghost use Rattle.record_check.specs.Checks.{refusal, checks, certificate_check, 
 use record::Wanted;
 
 // What a check answers: on a sound record its kind and counts, and number 0; on a refusal all but number and place are 0.
-#[derive(Drop)]
+#[derive(Clone, Copy)]
 pub struct Checked {
     pub number: usize,
     pub place: usize,

@@ -1,6 +1,8 @@
 // Where the numbers of a body are out of range. Each run of equal fields has two loops, which test the bytes where they stand, one
 // comparison a field: one says whether all are in range, several at a time; the other tells the place of the first that is not. A short
 // run of multipliers is walked by the second alone.
+#![tactic(auto)]
+
 ghost use Rattle.std.specs.Prelude.{◌+◌, ◌*◌, ◌≤◌, ◌≡◌, ◌&&◌, [], ◌++◌, ◌∷◌, pos, length, replicate};
 ghost use Rattle.record.specs.Layouts.{entry, right_side, multiplier, scale, direction, rows_of};
 ghost use Rattle.record.specs.Ranges.{◌to◌, variables, rows, within};
@@ -109,7 +111,7 @@ fn multipliers_fit(bytes: &[u8], place: usize, count: usize) -> bool
 // ---- runs: where the first number out of range stands, or the end
 
 // The fields that stand in runs.
-#[derive(Drop)]
+#[derive(Clone, Copy)]
 enum RunOf {
     Entries,
     Directions,

@@ -1,4 +1,6 @@
 // Runs of equal fields: definitions and laws that the checks, the readers and the writer share, and how long a record and its list are.
+#![tactic(auto)]
+
 ghost use Rattle.std.specs.Prelude.{◌≤◌, ◌≡◌};
 ghost use Rattle.record.specs.Layouts.{kind_of, length_of};
 ghost use Rattle.record_fields.specs.Runs.{value_count};

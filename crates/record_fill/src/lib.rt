@@ -1,4 +1,6 @@
 // Filling a body: runs of values of one form, the parts of a body, and the body of each kind. Whoever calls has tested the values, and has room for them.
+#![tactic(auto)]
+
 ghost use Rattle.std.specs.Prelude.{◌+◌, ◌*◌, ◌≤◌, ◌≡◌, true, [], ◌∷◌, ◌++◌, length, drop, replicate};
 ghost use Rattle.std.proofs.lemmas.List.Edits.{sets};
 ghost use Rattle.endian.specs.Numbers.{digits};

@@ -1,4 +1,6 @@
 // Whether a kind, counts and a list of values make a record: 01's order for a writing, up to the room.
+#![tactic(auto)]
+
 ghost use Rattle.std.specs.Prelude.{◌≡◌, true, false, List, [], ℤ};
 ghost use Rattle.record.specs.Layouts.{is_loop, is_lasso};
 ghost use Rattle.record.specs.Wants.{kinds_written};
@@ -6,7 +8,7 @@ ghost use Rattle.record.specs.Writers.{Writer, kind as pair_kind, writer};
 ghost use Rattle.record_given.specs.Settled.{refusal, counted, settled};
 
 // What is told, and a lasso's ms. On a refusal all but number and place are 0.
-#[derive(Drop)]
+#[derive(Clone, Copy)]
 pub struct Given {
     pub number: usize,
     pub place: usize,

@@ -1,5 +1,7 @@
 // Where the values of a list are out of range, as a writer tests them: each function tells the place, in the record that would be written,
 // of the first value out of range, or the end of its part if there is none.
+#![tactic(auto)]
+
 ghost use Rattle.std.specs.Prelude.{◌+◌, ◌*◌, ◌≤◌, ◌<◌, ◌≡◌, [], ◌∷◌, ◌++◌, length, replicate};
 ghost use Rattle.record.specs.Fields.{width, Field, widths};
 ghost use Rattle.record.specs.Layouts.{kind_of, direction, scale, row_count, rows_of, length_of, ahead, listed};

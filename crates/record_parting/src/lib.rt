@@ -1,5 +1,7 @@
 // Bytes end to end, cut into records: how many of them the first record takes, where a record ends, and how many records there are,
 // as specs/Parting.antt says. The sheet and a batch part their bytes so.
+#![tactic(auto)]
+
 ghost use Rattle.std.specs.Prelude.{◌+◌, ◌*◌, ◌≤◌, ◌≡◌, length, drop};
 ghost use Rattle.record_parting.specs.Parting.{taken, records};
 

@@ -1,5 +1,7 @@
 // Whether bytes are a sound record of kind 5, a loop of several paths, or of kind 6, a lexicographic argument for one (02, Q-3): the
 // tests of "Order for a record". A record is visited once and never copied.
+#![tactic(auto)]
+
 ghost use Rattle.std.specs.Prelude.{◌+◌, ◌*◌, ◌≤◌, ◌≡◌, ◌++◌, length, replicate};
 ghost use Rattle.refusal.specs.Faults.{fault_of};
 ghost use Rattle.refusal.specs.Tests.{done, first};
@@ -32,7 +34,7 @@ pub fn ends(at: usize, end: usize) -> Fault
 // ---- walks along the paths: each is tested and counted at once
 
 // How many paths come before the first that fails, and the sum of what these have.
-#[derive(Drop)]
+#[derive(Clone, Copy)]
 struct Walked {
     paths: usize,
     sum: usize,

@@ -1,5 +1,7 @@
 // Reading a record: a record that is sound, and for whose values there is room, is unpacked into the lent list; all else is refused and
 // leaves the list as it was.
+#![tactic(auto)]
+
 ghost use Rattle.std.specs.Prelude.{◌≡◌};
 ghost use Rattle.record.specs.Readers.{loop_reader, certificate_reader, reads, fills};
 ghost use Rattle.record_read.specs.Unpacks.{refusal, Sized, unpacked, unpacks};

@@ -1,5 +1,7 @@
 // Whether bytes are a sound record of kind 8 (02, Q-8): the tests of "Order for a record", for a loop over n variables with m rows. Both
 // counts come from a sound loop, so they are within the limits. A record is visited once and never copied.
+#![tactic(auto)]
+
 ghost use Rattle.std.specs.Prelude.{◌+◌, ◌*◌, ◌≤◌, ◌≡◌, length};
 ghost use Rattle.refusal.specs.Faults.{fault_of};
 ghost use Rattle.refusal.specs.Tests.{first};

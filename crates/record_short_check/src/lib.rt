@@ -1,5 +1,7 @@
 // Whether bytes are a sound record of kind 7, a short ranking (02, Q-6): the tests of "Order for a record". A record is visited once and
 // never copied: one walk tests the triples and keeps where the first multiplier out of range stands.
+#![tactic(auto)]
+
 ghost use Rattle.std.specs.Prelude.{◌+◌, ◌*◌, ◌≤◌, ◌≡◌, length};
 ghost use Rattle.endian.specs.Numbers.{little_at};
 ghost use Rattle.refusal.specs.Faults.{fault_of};
@@ -55,7 +57,7 @@ fn fault_with(bytes: &[u8], fault: usize, at: usize) -> usize
 // ---- all triples
 
 // How many triples come before the first that fails, and where the first multiplier out of range among these stands.
-#[derive(Drop)]
+#[derive(Clone, Copy)]
 struct Walked {
     triples: usize,
     fault: usize,

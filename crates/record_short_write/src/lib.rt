@@ -1,5 +1,7 @@
 // Moving rankings to kind 7 and back (02, Q-6). A record that is sound is written from the first byte of the room on; one that is not, or
 // has no room, is refused and changes no byte. `lengthen_into` also serves whoever needs the kind 2 record of a short one that is sound.
+#![tactic(auto)]
+
 ghost use Rattle.std.specs.Prelude.{ℕ, ◌+◌, ◌*◌, ◌≤◌, ◌<◌, ◌≡◌, ◌++◌, length, take, drop, replicate};
 ghost use Rattle.record_short.specs.Conversions.{triples_needed, short_bytes};
 ghost use Rattle.record_short.specs.Conversions.{shortens, shortened_room, lengthens, lengthened_room};

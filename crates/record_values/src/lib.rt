@@ -1,5 +1,7 @@
 // The list of values of a record, read from its bytes into a list that is long enough: runs of numbers of one form, parts of a body, a
 // whole list.
+#![tactic(auto)]
+
 ghost use Rattle.std.specs.Prelude.{◌+◌, ◌*◌, ◌≤◌, ◌≡◌, [], ◌∷◌, ◌++◌, length, drop, replicate};
 ghost use Rattle.std.proofs.lemmas.List.Edits.{sets};
 ghost use Rattle.record.specs.Fields.{u16, i16, i32, values as held};

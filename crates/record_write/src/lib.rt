@@ -1,5 +1,7 @@
 // Writing a record: length and kind go first, and the body is filled in the part of the room after the kind. What does not make a record,
 // or has no room, is refused and changes no byte.
+#![tactic(auto)]
+
 ghost use Rattle.std.specs.Prelude.{◌+◌, ◌≡◌, [], ◌++◌};
 ghost use Rattle.std.proofs.lemmas.List.Edits.{sets};
 ghost use Rattle.endian.specs.Numbers.{digits};

@@ -1,5 +1,7 @@
 // The door for C and Rust: each call of the library under a name that a linker finds, with answers whose fields are numbers. Nothing
 // is asked of a caller, and each answer is the proved call's, flattened as specs/Flat.antt says.
+#![tactic(auto)]
+
 ghost use Rattle.std.specs.Prelude.{◌≡◌, length};
 ghost use Rattle.record.specs.Readers.{loop_reader, certificate_reader, reads, fills};
 ghost use Rattle.record.specs.Writers.{writer, writes, room-after};
@@ -20,7 +22,7 @@ use verdict_flat::FlatVerdict;
 
 // The answer of a reading.
 #[repr(C)]
-#[derive(Drop)]
+#[derive(Clone, Copy)]
 pub struct FlatReading {
     pub number: usize,
     pub place: usize,
@@ -32,7 +34,7 @@ pub struct FlatReading {
 
 // The answer of a writing.
 #[repr(C)]
-#[derive(Drop)]
+#[derive(Clone, Copy)]
 pub struct FlatWriting {
     pub number: usize,
     pub place: usize,
@@ -41,7 +43,7 @@ pub struct FlatWriting {
 
 // The answer of a bound: judging's, and the bound beside it.
 #[repr(C)]
-#[derive(Drop)]
+#[derive(Clone, Copy)]
 pub struct FlatBounded {
     pub number: usize,
     pub place: usize,
@@ -55,7 +57,7 @@ pub struct FlatBounded {
 
 // The answer of a batch: record is 1 for the loop's refusals and else 0, count the records judged.
 #[repr(C)]
-#[derive(Drop)]
+#[derive(Clone, Copy)]
 pub struct FlatBatch {
     pub number: usize,
     pub place: usize,

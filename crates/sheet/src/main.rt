@@ -1,6 +1,8 @@
 // The program "sheet" of 01: standard input is one loop record and then certificates, standard output is the text of the sheet.
 // It reads to the end, or past 65,536 bytes, and hands the text on part by part as the library puts it into a small room. What fails is told
 // by one line on standard error; a read that fails prints no text.
+#![tactic(auto)]
+
 ghost use Rattle.std.specs.Prelude.{◌+◌, ◌≤◌, ◌≡◌, true, length};
 ghost use Rattle.sheet_text.specs.Sheets.{sheet_text};
 ghost use Rattle.sheet_parts.specs.Parts.{Next};
@@ -33,7 +35,7 @@ fn hand_on(input: &[u8], done: &mut usize, part: &[u8]) -> bool
 }
 
 // How many bytes of the text were handed on, and whether no failure was told.
-#[derive(Drop)]
+#[derive(Clone, Copy)]
 struct Printed {
     done: usize,
     whole: bool,

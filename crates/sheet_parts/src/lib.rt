@@ -1,12 +1,14 @@
 // The text of a sheet part by part, for whoever has no room for all of it: the first line, and then as many whole lines as a small room
 // takes. Laid end to end the parts are the text (proofs/EndToEnd.antt).
+#![tactic(auto)]
+
 ghost use Rattle.std.specs.Prelude.{◌≤◌, ◌<◌, ◌≡◌, length};
 ghost use Rattle.sheet_text.specs.Sheets.{sheet_text};
 ghost use Rattle.sheet_parts.specs.Parts.{to_come, Goes_on, Begins};
 
 // A part that was put into a room: its bytes, the place in the input from which on the certificates have no line yet, the count of the
 // next one, and the loop's n and m.
-#[derive(Drop)]
+#[derive(Clone, Copy)]
 pub struct Part {
     pub written: usize,
     pub place: usize,

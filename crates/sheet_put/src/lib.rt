@@ -1,5 +1,7 @@
 // The text of a sheet, put into a room that is long enough: the input is parted into records, the loop is checked once, each certificate is
 // judged, and its line is put into the room, as the definitions of `sheet_text` say.
+#![tactic(auto)]
+
 ghost use Rattle.std.specs.Prelude.{◌+◌, ◌≤◌, length};
 ghost use Rattle.decimal.specs.Rooms.{Puts};
 ghost use Rattle.record.specs.Readers.{sound};

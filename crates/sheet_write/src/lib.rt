@@ -1,4 +1,6 @@
 // The calls for a sheet: the room that is enough for its text, and the text itself, put into the caller's room.
+#![tactic(auto)]
+
 ghost use Rattle.std.specs.Prelude.{◌≡◌};
 ghost use Rattle.sheet_text.specs.Sheets.{worst, sheet_answers, room_after};
 

@@ -1,5 +1,7 @@
 // The lines of a sheet: writers that put one word, number or verdict after another into a room, as the definitions say. Each asks for
 // room enough for what it writes, and returns the place after it.
+#![tactic(auto)]
+
 ghost use Rattle.std.specs.Prelude.{◌+◌, ◌≤◌, [], ◌∷◌, ◌++◌, map, length};
 ghost use Rattle.decimal.specs.Decimals.{decimal, signed_decimal};
 ghost use Rattle.decimal.specs.Rooms.{Puts};

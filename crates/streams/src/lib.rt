@@ -1,5 +1,7 @@
 // Standard input and standard output, for programs: an input is read to its end, a text is written to its last byte, and what fails is told by
 // a line on standard error. A program has no exit status, so that line is how its caller knows.
+#![tactic(auto)]
+
 ghost use Rattle.std.specs.Prelude.{◌≤◌, ◌≡◌, true, false, length};
 ghost use Rattle.io.specs.Counts.{IsPrefixLen};
 ghost use Rattle.streams.specs.SystemAnswers.{passes, step_of, Within, Tells};
@@ -7,7 +9,7 @@ ghost use Rattle.streams.specs.SystemAnswers.{passes, step_of, Within, Tells};
 use libc::{STDERR_FILENO, STDIN_FILENO, STDOUT_FILENO};
 
 // What a read or a write did.
-#[derive(Drop)]
+#[derive(Clone, Copy)]
 enum Step {
     Moved(usize),
     Nothing,
@@ -46,7 +48,7 @@ fn step_of(got: isize, buf: &[u8], error: i32) -> Step
 }
 
 // How far a stream has come: the bytes moved so far, whether it goes on, and whether a failure was told.
-#[derive(Drop)]
+#[derive(Clone, Copy)]
 pub struct Reached {
     pub size: usize,
     pub more: bool,

@@ -17,7 +17,7 @@ use Rattle.theory.specs.Rankings.{Ranking}
 use Rattle.theory.specs.Exclusions.{Exclusion}
 use Rattle.theory.specs.Lassos.{Lasso, longer, starting, keeping}
 use Rattle.theory.specs.WeightedRows.{Weighted, sum_of, times_v}
-use Rattle.theory.specs.Conditions.{Proposal, ranking_tests, exclusion_tests, weighed_tests, lasso_tests, ◌at-each◌unless◌, of, started, kept, ranked, row_at, ranking_told, exclusion_told, weighed_told, lasso_told}
+use Rattle.theory.specs.Conditions.{Proposal, ranking_tests, exclusion_tests, weighed_tests, lasso_tests, ◌at_each◌unless◌, of, started, kept, ranked, row_at, ranking_told, exclusion_told, weighed_told, lasso_told}
 use Rattle.theory.proofs.Orders.{first_each, first_of}
 
 pub ranking_in_order : (loop : Loop) (c : Ranking)

@@ -11,7 +11,7 @@ use Rattle.refusal.specs.Places.{Throughout, FirstFailing, before_failing, told_
 use Rattle.refusal.proofs.TestLaws.{Passes, either, never, passed, failed, passes_done, done_passes, passes_append, append_passes, first_then, first_told}
 use Rattle.refusal.proofs.PlaceLaws.{all-or-first, holds_before, fails_there, before_first, told_none, told_there}
 use Rattle.whole.specs.Sums.{tabulate}
-use Rattle.theory.specs.Conditions.{◌at-each◌unless◌, of}
+use Rattle.theory.specs.Conditions.{◌at_each◌unless◌, of}
 
 -- ---- one test for each place
 
@@ -41,7 +41,7 @@ module _ {I : Type 0} where
       each_told n number (λ l. place (suc l)) (λ l. test (suc l)) i j (omega arith) h (λ l k. before (suc l) (omega arith))
 
   pub first_each : (number n : ℕ) (holds : ℕ → I → Bool) (i : I) → first (number at_each n unless holds) i ≡ told_each number n (λ j. holds j i)
-  unfolding ◌at-each◌unless◌
+  unfolding ◌at_each◌unless◌
   first_each number n holds i =
       all-or-first n (λ j. holds j i)
       (λ all.
@@ -130,7 +130,7 @@ module _ {I : Type 0} {i : I} where
   -- one test for each column or row
   pub each : (n number : ℕ) (test : ℕ → I → Bool) {P : ℕ → Type 0} → ((j : ℕ) → test j i ≡ true → P j) → ((j : ℕ) → P j → test j i ≡ true)
       → Decides (number at_each n unless test) i (Throughout n P) (λ k p. (number ≡ k) × FirstFailing n P p)
-  unfolding ◌at-each◌unless◌
+  unfolding ◌at_each◌unless◌
   each n number test {P} f g =
       record {
         passes = λ h. passes_each n number (λ j p. j) test i (λ j k. g j (h j k));

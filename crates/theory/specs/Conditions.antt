@@ -17,8 +17,8 @@ pub record Proposal (C : Type 0) : Type 0 where
   pub values : C
 
 -- one test for each place below a count, a column or a row, the first first: "number at each of n places unless what holds there"
-infix 3 ◌at-each◌unless◌
-unfoldable pub ◌at-each◌unless◌ : {I : Type 0} → ℕ → ℕ → (ℕ → I → Bool) → List (Test I)
+infix 3 ◌at_each◌unless◌
+unfoldable pub ◌at_each◌unless◌ : {I : Type 0} → ℕ → ℕ → (ℕ → I → Bool) → List (Test I)
 number at_each n unless holds = tabulate n (λ j. number at (λ i. j) unless holds j)
 
 -- ---- ranking: YA' = 0; (Y - Z)A = 0; Z(A + A') = 0; Zb < 0

@@ -10,7 +10,7 @@ use Rattle.theory.specs.Rankings.{Ranking, rank, start, fall, bound}
 use Rattle.theory.specs.Exclusions.{Exclusion, divides, all_divided, step_is_whole}
 use Rattle.theory.specs.Lassos.{longer}
 use Rattle.theory.specs.Conditions.{ranking_told, exclusion_told, lasso_told, ranking_tests, exclusion_tests, lasso_tests}
-use Rattle.theory.specs.Conditions.{weighed_tests, ◌at-each◌unless◌, of}
+use Rattle.theory.specs.Conditions.{weighed_tests, ◌at_each◌unless◌, of}
 use Rattle.theory.specs.Samples.{row, ranking, excluding, lasso, P, S1, S7-loop, S7, S8, S9-loop, S9, S10-loop, S10-stem, S10-ranking}
 use Rattle.theory.specs.Samples.{S10, S14-loop, S14, unlike_loop, unlike_ranking, excluded_loop, unlike_exclusion, lasso_loop}
 use Rattle.theory.specs.Samples.{unlike_lasso, half_steps, half_step, never_below, odd_U}
@@ -143,7 +143,7 @@ whole_steps =
 -- opens all that the tables compute with
 unfoldable pub computing : Unit {0}
 unfolding
-    told computed ranking_told exclusion_told lasso_told ranking_tests exclusion_tests weighed_tests lasso_tests ◌at-each◌unless◌ of first
+    told computed ranking_told exclusion_told lasso_told ranking_tests exclusion_tests weighed_tests lasso_tests ◌at_each◌unless◌ of first
     tabulate whole_steps step_is_whole all_divided divides
     sum dot scale add less rank start fall bound P S1 S7-loop S7 S8 S9-loop S9 half_steps half_step never_below odd_U
     S10-loop S10 S14-loop S14 unlike_loop unlike_ranking

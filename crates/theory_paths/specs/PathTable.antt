@@ -3,7 +3,7 @@
 use Rattle.std.specs.Prelude.{ℕ, List, [], ◌∷◌, ℤ, pos}
 use Rattle.refusal.specs.Tests.{Told, done, refused, first}
 use Rattle.whole.specs.Sums.{dot, sum, tabulate}
-use Rattle.theory.specs.Conditions.{ranking_told, ranking_tests, ◌at-each◌unless◌}
+use Rattle.theory.specs.Conditions.{ranking_told, ranking_tests, ◌at_each◌unless◌}
 use Rattle.theory_paths.specs.Paths.{path}
 use Rattle.theory_paths.specs.PathConditions.{every, weighs, path_tests, path_by_path, lexicographic_tests, lexicographic_told}
 use Rattle.theory_paths.specs.PathSamples.{component_of, part_of, argument, x_then_y, x_falls, y_falls, two_counters}
@@ -77,7 +77,7 @@ told =
 unfoldable pub computing : Unit {0}
 unfolding
     told lexicographic_told lexicographic_tests path_by_path path_tests weighs every first sum dot tabulate ranking_told ranking_tests
-    ◌at-each◌unless◌
+    ◌at_each◌unless◌
     two_counters two_counters_argument ping_pong ping_pong_ranking ping_pong_argument third_counter to_and_fro
     free component_missing no_fall downward bounded_below_nought level ranking_below_nought loose_ping_pong unaffecting_below_nought
 computing = tt

@@ -4,7 +4,7 @@
 use Rattle.std.specs.Prelude.{ℕ, List, [], ◌∷◌, ℤ, pos, negsuc}
 use Rattle.refusal.specs.Tests.{Told, done, refused, first}
 use Rattle.whole.specs.Sums.{dot, sum, tabulate, scale, add, less}
-use Rattle.theory.specs.Conditions.{exclusion_told, exclusion_tests, ranking_tests, weighed_tests, ◌at-each◌unless◌, of}
+use Rattle.theory.specs.Conditions.{exclusion_told, exclusion_tests, ranking_tests, weighed_tests, ◌at_each◌unless◌, of}
 use Rattle.theory.specs.Exclusions.{divides, all_divided, step_is_whole}
 use Rattle.theory.specs.Loops.{Loop, over}
 use Rattle.theory.specs.Rankings.{rank, start, fall, bound}
@@ -102,7 +102,7 @@ settling_bounds =
 -- opens all that the tables compute with
 unfoldable pub computing : Unit {0}
 unfolding
-    told computed settling_bounds settling_told settling_tests exclusion_told exclusion_tests ranking_tests weighed_tests ◌at-each◌unless◌ of
+    told computed settling_bounds settling_told settling_tests exclusion_told exclusion_tests ranking_tests weighed_tests ◌at_each◌unless◌ of
     first tabulate sum dot scale add less rank start fall bound unsettled unsettled_steps settling_bound step_is_whole all_divided divides
     curve curve_settles curve_excluded unlike_loop unlike_settling
     still no_scale at_most_one_up E-below-nought upward Y-below-nought upward_idly Z-below-nought

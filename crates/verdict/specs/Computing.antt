@@ -15,7 +15,7 @@ use Rattle.verdict.specs.StateTests as StateTests
 
 unfoldable pub computing : Unit {0}
 unfolding
-    Records.computing Conditions.◌at-each◌unless◌ Conditions.ranking_tests Conditions.exclusion_tests Conditions.weighed_tests
+    Records.computing Conditions.◌at_each◌unless◌ Conditions.ranking_tests Conditions.exclusion_tests Conditions.weighed_tests
     Conditions.of Conditions.lasso_tests Conditions.ranking_told Conditions.exclusion_told Conditions.lasso_told Rankings.rank
     Rankings.start Rankings.fall Rankings.bound Sums.dot Sums.sum Sums.tabulate Sums.scale Sums.add Sums.less
     StateTests.before_outside StateTests.state_tests Bounding.invariant Bounding.bounding Bounding.bounded Bounding.bounds

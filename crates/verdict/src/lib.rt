@@ -1,14 +1,15 @@
 // Verdicts: what judging and bound answer.
+#![tactic(auto)]
 
 // The grade of an exclusion: no linear ranking function over whole numbers, or over fractions only.
-#[derive(Drop)]
+#[derive(Clone, Copy)]
 pub enum Grade {
     Whole,
     Fractions,
 }
 
 // What an accepted certificate shows; a refusal shows nothing.
-#[derive(Drop)]
+#[derive(Clone, Copy)]
 pub enum Outcome {
     Nothing,
     Ranking { start: i64, fall: i64 },
@@ -19,7 +20,7 @@ pub enum Outcome {
 }
 
 // The refusal number, its place, the record that it speaks of (1 loop, 2 certificate, 0 neither), and the outcome.
-#[derive(Drop)]
+#[derive(Clone, Copy)]
 pub struct Verdict {
     pub number: usize,
     pub place: usize,
@@ -28,7 +29,7 @@ pub struct Verdict {
 }
 
 // A verdict with the bound on steps beside it; a refusal's bound is 0.
-#[derive(Drop)]
+#[derive(Clone, Copy)]
 pub struct Bounded {
     pub verdict: Verdict,
     pub bound: usize,

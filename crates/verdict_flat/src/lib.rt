@@ -1,5 +1,7 @@
 // A verdict as callers in other languages get it: fields that are numbers, one after another. An outcome cannot cross as it is. Nothing is lost: the
 // numbers of a verdict give it back.
+#![tactic(auto)]
+
 ghost use Rattle.std.specs.Prelude.{◌≡◌};
 ghost use Rattle.verdict_flat.specs.FlatVerdicts.{told, flat_verdict};
 ghost use Rattle.verdict_flat.specs.VerdictsBack.{grade_back, outcome_back, verdict_back};
@@ -9,7 +11,7 @@ use verdict::{Grade, Outcome, Verdict};
 // The answer of judging: the outcome is 0 nothing, 2 ranking, 3 exclusion, 4 lasso, 6 lexicographic, 8 settling; the grade 0 none,
 // 1 whole, 2 fractions.
 #[repr(C)]
-#[derive(Drop)]
+#[derive(Clone, Copy)]
 pub struct FlatVerdict {
     pub number: usize,
     pub place: usize,

@@ -1,1 +1,2 @@
 // Judging loops of several paths, and every loop by its kind: definitions and theorems, no code.
+#![tactic(auto)]

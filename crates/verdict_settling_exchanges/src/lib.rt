@@ -1,1 +1,2 @@
 // What judging answers when two numbers of a settling's records stand in each other's place: definitions, a table and its theorem only.
+#![tactic(auto)]

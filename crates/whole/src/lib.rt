@@ -1,10 +1,12 @@
 // Whole numbers: the running sum, in which all sums over rows are made. A sum takes one term after another, and the state goes
 // in by value and comes back.
+#![tactic(auto)]
+
 ghost use Rattle.std.specs.Prelude.{◌≡◌, pos, ◌+ℤ◌, ◌*ℤ◌};
 ghost use Rattle.whole.specs.Ready.{Ready};
 
 // A column total that takes one row after another (01, "Conditions").
-#[derive(Drop)]
+#[derive(Clone, Copy)]
 pub struct Total {
     pub sum: i64,
 }

@@ -5,11 +5,11 @@ use borrow.Author.Rules.{rules}
 use Rattle.cases_lines.proofs.room_of.Statement.{statement}
 use Rattle.cases_lines.proofs.room_of.Tie as tie
 
-slice-aggregate-result : tie.Need-slice-aggregate-result
-slice-aggregate-result c = sym (length-take-le _ _ c.before.requires)
+slice-aggregate-result : tie.Need-slice_bounds-result-end
+slice-aggregate-result c = sym (length-take-le _ _ c.requires)
 
 returns : tie.Need-returns
 returns c = search rules
 
-pub room-of-spec : {M : Type 1} → statement M
-room-of-spec = tie.close (tie.spec slice-aggregate-result returns)
+pub room_of_spec : {M : Type 1} → statement M
+room_of_spec = tie.close (tie.spec slice-aggregate-result returns)

@@ -11,23 +11,23 @@ use Rattle.whole.proofs.Size.{abs_neg, fits_abs}
 use Rattle.cases_lines.proofs.signed.Statement.{statement}
 use Rattle.cases_lines.proofs.signed.Tie as tie
 
-cast-result : tie.Need-overflow-cast-result
+cast-result : tie.Need-overflow_cast-result
 cast-result c = search rules
 
-sub-result : tie.Need-overflow-sub-result
+sub-result : tie.Need-overflow_sub-result
 sub-result c =
-    let size = c.before.args.size in
+    let size = c.args.size in
     let e : to_z w64 size ≡ pos size = to_z_pos w64 (omega arith) in
     rw (e, +ℤ_idl (neg_ℤ (pos size))) (fits_abs (omega (arith, abs_neg (pos size))))
 
-returns : tie.Need-returns
+returns : tie.Need-returns-then-below
 returns c = search rules
 
-cast-result-2 : tie.Need-overflow-cast-result-2
+cast-result-2 : tie.Need-overflow_cast-result-2
 cast-result-2 c = search rules
 
-returns-2 : tie.Need-returns-2
+returns-2 : tie.Need-returns
 returns-2 c = search rules
 
-pub signed-spec : {M : Type 1} → statement M
-signed-spec = tie.close (tie.spec cast-result sub-result returns cast-result-2 returns-2)
+pub signed_spec : {M : Type 1} → statement M
+signed_spec = tie.close (tie.spec cast-result sub-result returns cast-result-2 returns-2)

@@ -9,27 +9,27 @@ use Rattle.decimal.proofs.DecimalLaws.{length_small, length_more, decimal_some, 
 use Rattle.decimal.proofs.digit_count.Statement.{statement}
 use Rattle.decimal.proofs.digit_count.Tie as tie
 
-abbrev invariant-loop : tie.invariant-loop
-invariant-loop x count₀ rest₀ count rest = count + length (decimal rest) ≡ length (decimal x) + 1
+abbrev invariant-loop-rest : tie.invariant-loop-rest
+invariant-loop-rest x count₀ rest₀ count rest = count + length (decimal rest) ≡ length (decimal x) + 1
 
-abbrev decreases-loop : tie.decreases-loop
-decreases-loop x count₀ rest₀ count rest = rest
+abbrev decreases-loop-rest : tie.decreases-loop-rest
+decreases-loop-rest x count₀ rest₀ count rest = rest
 
-loop-holds : tie.Need-loop-init invariant-loop decreases-loop
+loop-holds : tie.Need-loop-rest-init invariant-loop-rest decreases-loop-rest
 loop-holds c = omega arith
 
-add-count : tie.Need-overflow-add-count invariant-loop decreases-loop
-add-count c = omega (arith, decimal_room c.before.before.args.x (omega arith), decimal_some c.before.loop.rest)
+add-count : tie.Need-overflow_add-count invariant-loop-rest decreases-loop-rest
+add-count c = omega (arith, decimal_room c.args.x (omega arith), decimal_some c.loop-rest.rest)
 
-loop-less : tie.Need-loop-smaller invariant-loop decreases-loop
+loop-less : tie.Need-loop-rest-smaller invariant-loop-rest decreases-loop-rest
 loop-less c = omega arith
 
-loop-again : tie.Need-loop-preserved invariant-loop decreases-loop
-loop-again c = omega (arith, length_more c.before.loop.rest (omega arith))
+loop-again : tie.Need-loop-rest-preserved invariant-loop-rest decreases-loop-rest
+loop-again c = omega (arith, length_more c.loop-rest.rest (omega arith))
 
-returns : tie.Need-returns invariant-loop decreases-loop
-returns c = omega (arith, length_small c.before.loop.rest (omega arith))
+returns : tie.Need-returns invariant-loop-rest decreases-loop-rest
+returns c = omega (arith, length_small c.loop-rest.rest (omega arith))
 
-pub digit-count-spec : {M : Type 1} → statement M
-digit-count-spec =
-    tie.close (tie.spec invariant-loop decreases-loop loop-holds add-count loop-less loop-again returns)
+pub digit_count_spec : {M : Type 1} → statement M
+digit_count_spec =
+    tie.close (tie.spec invariant-loop-rest decreases-loop-rest loop-holds add-count loop-less loop-again returns)

@@ -15,60 +15,60 @@ use Rattle.decimal.proofs.put_i64.Statement.{statement}
 use Rattle.decimal.proofs.put_i64.Tie as tie
 
 -- what the test says of z, and what its text is
-below : (c : tie.Then1) → c.before.before.args.z <ℤ pos 0
-below c = true_lt c.before.before.args.z (pos 0) (rw (to_z-of_z c.before.before.ranges.z) at c.if1.true)
+below : (c : tie.Then-z-lt0) → c.args.z <ℤ pos 0
+below c = true_lt c.args.z (pos 0) (rw (to_z-of_z c.ranges.z) at c.if-z-lt0.true)
 
-text-below : (c : tie.Then1) → signed_decimal c.before.before.args.z ≡ 45 ∷ decimal (nat_abs c.before.before.args.z)
-text-below c = signed_below c.before.before.args.z (below c)
+text-below : (c : tie.Then-z-lt0) → signed_decimal c.args.z ≡ 45 ∷ decimal (nat_abs c.args.z)
+text-below c = signed_below c.args.z (below c)
 
-above : (c : tie.Else1) → pos 0 ≤ℤ c.before.before.args.z
-above c = false_lt c.before.before.args.z (pos 0) (rw (to_z-of_z c.before.before.ranges.z) at c.if1.false)
+above : (c : tie.Else-z-lt0) → pos 0 ≤ℤ c.args.z
+above c = false_lt c.args.z (pos 0) (rw (to_z-of_z c.ranges.z) at c.if-z-lt0.false)
 
-text-above : (c : tie.Else1) → signed_decimal c.before.before.args.z ≡ decimal (nat_abs c.before.before.args.z)
-text-above c = signed_above c.before.before.args.z (above c)
+text-above : (c : tie.Else-z-lt0) → signed_decimal c.args.z ≡ decimal (nat_abs c.args.z)
+text-above c = signed_above c.args.z (above c)
 
-slice-write-room : tie.Need-slice-write-room
+slice-write-room : tie.Need-bounds-room-place
 slice-write-room c = omega (arith, ap length (text-below c))
 
-add-put-u64 : tie.Need-overflow-add-put-u64
+add-put-u64 : tie.Need-overflow_add-place
 add-put-u64 c = search rules
 
-size-below-requires : tie.Need-size-below-requires
-size-below-requires c κs = rw (to_z-of_z c.before.before.before.ranges.z) (below c.before)
+size-below-requires : tie.Need-size_below-requires
+size-below-requires c κs = rw (to_z-of_z c.ranges.z) (below c.before)
 
-put-u64-requires : tie.Need-put-u64-requires
-put-u64-requires c κs = rw (c.size_below.ensures, to_z-of_z c.before.before.before.before.ranges.z) (simp length-set (omega (arith, ap length (text-below c.before.before))))
+put-u64-requires : tie.Need-put_u64-requires
+put-u64-requires c κs = rw (c.size_below.ensures, to_z-of_z c.ranges.z) (simp length-set (omega (arith, ap length (text-below c.before.before))))
 
-same_length : tie.Need-same-length
-same_length c = c.before.before.put-u64.auto.0 ∙ simp length-set
+same_length : tie.Need-shape_of-room-then-z-lt0
+same_length c = c.put_u64.auto.room ∙ simp length-set
 
-returns : tie.Need-returns
+returns : tie.Need-returns-then-z-lt0
 returns c =
     let e = c.before.before.before.before.before in
-    let a = e.before.before.args in
-    let size : c.before.before.before.size_below.result ≡ nat_abs a.z = rw (to_z-of_z e.before.before.ranges.z) at c.before.before.before.size_below.ensures in
-    let put = rw size at c.before.before.put-u64.ensures in
+    let a = e.args in
+    let size : c.size_below.result ≡ nat_abs a.z = rw (to_z-of_z e.ranges.z) at c.size_below.ensures in
+    let put = rw size at c.put_u64.ensures in
     rw (text-below e)
     (record { end_is = omega (arith, put.end_is); room_is = put.room_is ∙ written_first a.room.now a.place 45 (decimal (nat_abs a.z)) (slice-write-room e) })
 
-cast-put-u64 : tie.Need-overflow-cast-put-u64
+cast-put-u64 : tie.Need-overflow_cast-z
 cast-put-u64 c =
-    rw (to_z-of_z c.before.before.before.ranges.z)
-    (yes_non_neg (above c.before), record { fits = omega (arith, nat_abs-le c.before.before.before.args.z c.before.before.before.ranges.z.sfits) })
+    rw (to_z-of_z c.ranges.z)
+    (yes_non_neg (above c.before), record { fits = omega (arith, nat_abs-le c.args.z c.ranges.z.sfits) })
 
-put-u64-requires-2 : tie.Need-put-u64-requires-2
-put-u64-requires-2 c κs = rw (to_z-of_z c.before.before.before.ranges.z, ← text-above c.before) c.before.before.before.requires
+put-u64-requires-2 : tie.Need-put_u64-requires-2
+put-u64-requires-2 c κs = rw (to_z-of_z c.ranges.z, ← text-above c.before) c.requires
 
-same-length-2 : tie.Need-same-length-2
+same-length-2 : tie.Need-shape_of-room
 same-length-2 c = search rules
 
-returns-2 : tie.Need-returns-2
+returns-2 : tie.Need-returns
 returns-2 c =
     let e = c.before.before.before.before in
-    rw (to_z-of_z e.before.before.ranges.z, ← text-above e) at c.before.before.put-u642.ensures
+    rw (to_z-of_z e.ranges.z, ← text-above e) at c.put_u64-2.ensures
 
-pub put-i64-spec : {M : Type 1} → statement M
-put-i64-spec =
+pub put_i64_spec : {M : Type 1} → statement M
+put_i64_spec =
     tie.close
     (tie.spec
     slice-write-room

@@ -19,17 +19,17 @@ module _ (c : tie.Start) where
   held : SFits w64 (pos (nat_abs c.args.z - 1))
   held = sfits_of (omega (arith, nat_abs-le c.args.z c.ranges.z.sfits))
 
-sub-result : tie.Need-overflow-sub-result
+sub-result : tie.Need-overflow_sub-result
 sub-result c = rw (meant c) (held c)
 
-cast-result : tie.Need-overflow-cast-result
+cast-result : tie.Need-overflow_cast-result
 cast-result c = rw (meant c, to_z-of_z (held c)) (tt, record { fits = omega (arith, nat_abs-le c.args.z c.ranges.z.sfits) })
 
-add-result : tie.Need-overflow-add-result
+add-result : tie.Need-overflow_add-result
 add-result c = rw (meant c, to_z-of_z (held c)) (record { fits = omega (arith, nat_abs-le c.args.z c.ranges.z.sfits) })
 
 returns : tie.Need-returns
 returns c = rw (meant c, to_z-of_z (held c)) (omega (arith, (size_below_zero c.args.z c.requires).1))
 
-pub size-below-spec : {M : Type 1} → statement M
-size-below-spec = tie.close (tie.spec sub-result cast-result add-result returns)
+pub size_below_spec : {M : Type 1} → statement M
+size_below_spec = tie.close (tie.spec sub-result cast-result add-result returns)

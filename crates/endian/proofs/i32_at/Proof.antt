@@ -5,10 +5,10 @@ use borrow.Author.Rules.{rules, sfits_of}
 use Rattle.endian.proofs.i32_at.Statement.{statement}
 use Rattle.endian.proofs.i32_at.Tie as tie
 
-u32-at-requires : tie.Need-u32-at-requires
+u32-at-requires : tie.Need-u32_at-requires
 u32-at-requires c κs = search rules
 
-add-less : tie.Need-overflow-add-less
+add-less : tie.Need-overflow_add-u32_at
 add-less c = search rules
 
 less-requires : tie.Need-less-requires
@@ -16,8 +16,8 @@ less-requires c κs = search rules
 
 returns : tie.Need-returns
 returns c =
-    let read = c.before.u32-at in
-    rw (to_z-of_z (sfits_of c.less.type-inv)) (signed_read 2147483648 read.result _ c.less.result read.ensures.1 read.ensures.0 c.less.ensures)
+    let read = c.before.u32_at in
+    rw (to_z-of_z (sfits_of c.less.type_inv)) (signed_read 2147483648 read.result _ c.less.result read.ensures.1 read.ensures.0 c.less.ensures)
 
-pub i32-at-spec : {M : Type 1} → statement M
-i32-at-spec = tie.close (tie.spec u32-at-requires add-less less-requires returns)
+pub i32_at_spec : {M : Type 1} → statement M
+i32_at_spec = tie.close (tie.spec u32-at-requires add-less less-requires returns)

@@ -18,17 +18,17 @@ module _ (c : tie.Start) where
   held : SFits w64 (pos c.args.a -ℤ pos c.args.b)
   held = sfits_of (minus_mag c.args.a c.args.b (2 ^ 63) (omega arith) (omega arith))
 
-cast-result : tie.Need-overflow-cast-result
+cast-result : tie.Need-overflow_cast-result
 cast-result c = search rules
 
-cast-result-2 : tie.Need-overflow-cast-result-2
+cast-result-2 : tie.Need-overflow_cast-result-2
 cast-result-2 c = search rules
 
-sub-result : tie.Need-overflow-sub-result
+sub-result : tie.Need-overflow_sub-result
 sub-result c = rw (meant c) (held c)
 
 returns : tie.Need-returns
 returns c = rw (meant c, to_z-of_z (held c))
 
-pub less-spec : {M : Type 1} → statement M
-less-spec = tie.close (tie.spec cast-result cast-result-2 sub-result returns)
+pub less_spec : {M : Type 1} → statement M
+less_spec = tie.close (tie.spec cast-result cast-result-2 sub-result returns)

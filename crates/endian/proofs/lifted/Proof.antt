@@ -21,20 +21,20 @@ module _ (c : tie.Start) where
   held : SFits w64 (pos above.up)
   held = sfits_of (omega (arith, above.small))
 
-mul-result : tie.Need-overflow-mul-result
+mul-result : tie.Need-overflow_mul-result
 mul-result c = search rules
 
-cast-result : tie.Need-overflow-cast-result
+cast-result : tie.Need-overflow_cast-result
 cast-result c = search rules
 
-add-result : tie.Need-overflow-add-result
+add-result : tie.Need-overflow_add-result
 add-result c = rw (meant c) (held c)
 
-cast-result-2 : tie.Need-overflow-cast-result-2
+cast-result-2 : tie.Need-overflow_cast-result-2
 cast-result-2 c = rw (meant c, to_z-of_z (held c)) (tt, record { fits = omega (arith, (above c).small) })
 
 returns : tie.Need-returns
 returns c = rw (meant c, to_z-of_z (held c)) (above c).stored
 
-pub lifted-spec : {M : Type 1} → statement M
-lifted-spec = tie.close (tie.spec mul-result cast-result add-result cast-result-2 returns)
+pub lifted_spec : {M : Type 1} → statement M
+lifted_spec = tie.close (tie.spec mul-result cast-result add-result cast-result-2 returns)

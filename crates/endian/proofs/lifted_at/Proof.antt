@@ -9,20 +9,20 @@ use borrow.Author.Rules.{rules}
 use Rattle.endian.proofs.lifted_at.Statement.{statement}
 use Rattle.endian.proofs.lifted_at.Tie as tie
 
-u16-at-requires : tie.Need-u16-at-requires
+u16-at-requires : tie.Need-u16_at-requires
 u16-at-requires c κs = search rules
 
-add-result : tie.Need-overflow-add-result
+add-result : tie.Need-overflow_add-result
 add-result c = search rules
 
-cast-result : tie.Need-overflow-cast-result
+cast-result : tie.Need-overflow_cast-result
 cast-result c = search rules
 
 returns : tie.Need-returns
 returns c =
-    let lifted = (c.u16-at.result + 32768) % 65536 in
-    let small : lifted < 65536 = mod-lt (c.u16-at.result + 32768) (omega arith) in
-    rw (to_z_pos w64 {n = lifted} (omega (arith, small))) (lifted_read 32768 c.u16-at.result _ c.u16-at.ensures.1 c.u16-at.ensures.0)
+    let lifted = (c.u16_at.result + 32768) % 65536 in
+    let small : lifted < 65536 = mod-lt (c.u16_at.result + 32768) (omega arith) in
+    rw (to_z_pos w64 {n = lifted} (omega (arith, small))) (lifted_read 32768 c.u16_at.result _ c.u16_at.ensures.1 c.u16_at.ensures.0)
 
-pub lifted-at-spec : {M : Type 1} → statement M
-lifted-at-spec = tie.close (tie.spec u16-at-requires add-result cast-result returns)
+pub lifted_at_spec : {M : Type 1} → statement M
+lifted_at_spec = tie.close (tie.spec u16-at-requires add-result cast-result returns)

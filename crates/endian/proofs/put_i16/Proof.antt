@@ -7,10 +7,10 @@ use Rattle.endian.proofs.put_i16.Tie as tie
 lifted-requires : tie.Need-lifted-requires
 lifted-requires c κs = search rules
 
-put-u16-requires : tie.Need-put-u16-requires
+put-u16-requires : tie.Need-put_u16-requires
 put-u16-requires c κs = search rules
 
-same_length : tie.Need-same-length
+same_length : tie.Need-shape_of-room
 same_length c = search rules
 
 returns : tie.Need-returns
@@ -19,5 +19,5 @@ returns c =
     let lifted = put.before in
     rw (lifted.lifted.ensures, to_z-of_z lifted.before.before.before.ranges.z) at put.put_u16.ensures
 
-pub put-i16-spec : {M : Type 1} → statement M
-put-i16-spec = tie.close (tie.spec lifted-requires put-u16-requires same_length returns)
+pub put_i16_spec : {M : Type 1} → statement M
+put_i16_spec = tie.close (tie.spec lifted-requires put-u16-requires same_length returns)

@@ -7,17 +7,17 @@ use Rattle.endian.proofs.put_i32.Tie as tie
 lifted-requires : tie.Need-lifted-requires
 lifted-requires c κs = search rules
 
-put-u32-requires : tie.Need-put-u32-requires
+put-u32-requires : tie.Need-put_u32-requires
 put-u32-requires c κs = search rules
 
-same_length : tie.Need-same-length
+same_length : tie.Need-shape_of-room
 same_length c = search rules
 
 returns : tie.Need-returns
 returns c =
     let put = c.before.before in
     let lifted = put.before in
-    rw (lifted.lifted.ensures, to_z-of_z lifted.before.before.before.ranges.z) at put.put-u32.ensures
+    rw (lifted.lifted.ensures, to_z-of_z lifted.before.before.before.ranges.z) at put.put_u32.ensures
 
-pub put-i32-spec : {M : Type 1} → statement M
-put-i32-spec = tie.close (tie.spec lifted-requires put-u32-requires same_length returns)
+pub put_i32_spec : {M : Type 1} → statement M
+put_i32_spec = tie.close (tie.spec lifted-requires put-u32-requires same_length returns)

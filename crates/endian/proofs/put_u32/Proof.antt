@@ -9,40 +9,40 @@ use borrow.Author.Rules.{rules}
 use Rattle.endian.proofs.put_u32.Statement.{statement}
 use Rattle.endian.proofs.put_u32.Tie as tie
 
-cast-room : tie.Need-overflow-cast-room
+cast-room : tie.Need-overflow_cast-room
 cast-room c = search rules
 
-slice-write-room : tie.Need-slice-write-room
+slice-write-room : tie.Need-bounds-room-place
 slice-write-room c = search rules
 
-cast-room-2 : tie.Need-overflow-cast-room-2
+cast-room-2 : tie.Need-overflow_cast-room-2
 cast-room-2 c = search rules
 
-add-room : tie.Need-overflow-add-room
+add-room : tie.Need-overflow_add-room
 add-room c = search rules
 
-slice-write-room-2 : tie.Need-slice-write-room-2
+slice-write-room-2 : tie.Need-bounds-room-place-2
 slice-write-room-2 c = simp length-set (omega arith)
 
-cast-room-3 : tie.Need-overflow-cast-room-3
+cast-room-3 : tie.Need-overflow_cast-room-3
 cast-room-3 c = search rules
 
-add-room-2 : tie.Need-overflow-add-room-2
+add-room-2 : tie.Need-overflow_add-room-2
 add-room-2 c = search rules
 
-slice-write-room-3 : tie.Need-slice-write-room-3
+slice-write-room-3 : tie.Need-bounds-room-place-3
 slice-write-room-3 c = simp length-set (omega arith)
 
-cast-room-4 : tie.Need-overflow-cast-room-4
+cast-room-4 : tie.Need-overflow_cast-room-4
 cast-room-4 c = search rules
 
-add-room-3 : tie.Need-overflow-add-room-3
+add-room-3 : tie.Need-overflow_add-room-3
 add-room-3 c = search rules
 
-slice-write-room-4 : tie.Need-slice-write-room-4
+slice-write-room-4 : tie.Need-bounds-room-place-4
 slice-write-room-4 c = simp length-set (omega arith)
 
-same_length : tie.Need-same-length
+same_length : tie.Need-shape_of-room
 same_length c = search rules
 
 returns : tie.Need-returns
@@ -57,8 +57,8 @@ returns c =
     let highest : x / 16777216 ≡ x / 256 / 256 / 256 = omega arith in
     rw (second, third, fourth, upper, highest) (sets-eq (digits 4 x) c.args.room.now place c.requires.0)
 
-pub put-u32-spec : {M : Type 1} → statement M
-put-u32-spec =
+pub put_u32_spec : {M : Type 1} → statement M
+put_u32_spec =
     tie.close
     (tie.spec
     cast-room

@@ -12,74 +12,74 @@ use borrow.Author.Rules.{rules}
 use Rattle.judge_along.proofs.entries_at.Statement.{statement}
 use Rattle.judge_along.proofs.entries_at.Tie as tie
 
-abbrev invariant-loop : tie.invariant-loop
-invariant-loop bytes place state total₀ j₀ j-end total j =
+abbrev invariant-loop-j : tie.invariant-loop-j
+invariant-loop-j bytes place state total₀ j₀ j-end total j =
     (j-end ≡ length state) × (j ≤ length state) × SumOf j most_state (state_term bytes place state) total.sum
 
-abbrev decreases-loop : tie.decreases-loop
-decreases-loop bytes place state total₀ j₀ j-end total j = length state - j
+abbrev decreases-loop-j : tie.decreases-loop-j
+decreases-loop-j bytes place state total₀ j₀ j-end total j = length state - j
 
-new-requires : tie.Need-new-requires invariant-loop decreases-loop
+new-requires : tie.Need-new-total-requires invariant-loop-j decreases-loop-j
 new-requires c κs = search rules
 
-loop-holds : tie.Need-loop-init invariant-loop decreases-loop
+loop-holds : tie.Need-loop-j-init invariant-loop-j decreases-loop-j
 loop-holds c =
-    let args = c.before.before.args in
-    (refl, omega arith, sum_none most_state (state_term args.bytes.now args.place args.state.now) c.new.ensures)
+    let args = c.args in
+    (refl, omega arith, sum_none most_state (state_term args.bytes.now args.place args.state.now) c.new-total.ensures)
 
-mul-i16-at : tie.Need-overflow-mul-i16-at invariant-loop decreases-loop
+mul-i16-at : tie.Need-overflow_mul-j invariant-loop-j decreases-loop-j
 mul-i16-at c = search rules
 
-add-i16-at : tie.Need-overflow-add-i16-at invariant-loop decreases-loop
+add-i16-at : tie.Need-overflow_add-place invariant-loop-j decreases-loop-j
 add-i16-at c = search rules
 
-i16-at-requires : tie.Need-i16-at-requires invariant-loop decreases-loop
+i16-at-requires : tie.Need-i16_at-requires invariant-loop-j decreases-loop-j
 i16-at-requires c κs = search rules
 
-mul-plus : tie.Need-overflow-mul-plus invariant-loop decreases-loop
+mul-plus : tie.Need-offset_bounds-state-j invariant-loop-j decreases-loop-j
 mul-plus c = search rules
 
-shared-slice-copy-out-plus : tie.Need-shared-slice-copy-out-plus invariant-loop decreases-loop
+shared-slice-copy-out-plus : tie.Need-bounds-state-j invariant-loop-j decreases-loop-j
 shared-slice-copy-out-plus c = search rules
 
-plus-requires : tie.Need-plus-requires invariant-loop decreases-loop
+plus-requires : tie.Need-plus-total-requires invariant-loop-j decreases-loop-j
 plus-requires c κs =
     let turn = c.before.before.before in
     let start = turn.before.before.before in
-    let read = c.before.i16-at in
-    may_add read.result (get_or start.args.state.now turn.loop.j (pos 0)) 32768 1048576 read.ensures.1 (start.requires.2 turn.loop.j)
-    (omega arith) turn.loop.total.sum (omega (arith, turn.loop.invariant.2.small))
+    let read = c.i16_at in
+    may_add read.result (get_or start.args.state.now turn.loop-j.j (pos 0)) 32768 1048576 read.ensures.1 (start.requires.2 turn.loop-j.j)
+    (omega arith) turn.loop-j.total.sum (omega (arith, turn.loop-j.invariant.2.small))
 
-add-j : tie.Need-overflow-add-j invariant-loop decreases-loop
+add-j : tie.Need-overflow_step-j invariant-loop-j decreases-loop-j
 add-j c = search rules
 
-loop-less : tie.Need-loop-smaller invariant-loop decreases-loop
+loop-less : tie.Need-loop-j-smaller invariant-loop-j decreases-loop-j
 loop-less c = search rules
 
-loop-again : tie.Need-loop-preserved invariant-loop decreases-loop
+loop-again : tie.Need-loop-j-preserved invariant-loop-j decreases-loop-j
 unfolding entry_at state_term
 loop-again c =
     let turn = c.before.before.before.before in
     let start = turn.before.before.before in
-    let read = c.before.before.i16-at in (
-      turn.loop.invariant.0,
+    let read = c.i16_at in (
+      turn.loop-j.invariant.0,
       omega arith,
-      sum_more most_state (state_term start.args.bytes.now start.args.place start.args.state.now) turn.loop.j turn.loop.invariant.2
-          (added read.result (get_or start.args.state.now turn.loop.j (pos 0)) 32768 1048576 read.ensures.1 (start.requires.2 turn.loop.j)
-          (omega arith) read.ensures.0 refl c.plus.ensures),
+      sum_more most_state (state_term start.args.bytes.now start.args.place start.args.state.now) turn.loop-j.j turn.loop-j.invariant.2
+          (added read.result (get_or start.args.state.now turn.loop-j.j (pos 0)) 32768 1048576 read.ensures.1 (start.requires.2 turn.loop-j.j)
+          (omega arith) read.ensures.0 refl c.plus-total.ensures),
     )
 
-returns : tie.Need-returns invariant-loop decreases-loop
+returns : tie.Need-returns invariant-loop-j decreases-loop-j
 returns c =
-    let end : c.before.loop.j ≡ length c.before.before.before.before.args.state.now = omega arith in
-    rw end at c.before.loop.invariant.2
+    let end : c.loop-j.j ≡ length c.args.state.now = omega arith in
+    rw end at c.loop-j.invariant.2
 
-pub entries-at-spec : {M : Type 1} → statement M
-entries-at-spec =
+pub entries_at_spec : {M : Type 1} → statement M
+entries_at_spec =
     tie.close
     (tie.spec
-    invariant-loop
-    decreases-loop
+    invariant-loop-j
+    decreases-loop-j
     new-requires
     loop-holds
     mul-i16-at

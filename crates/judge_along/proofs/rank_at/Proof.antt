@@ -16,75 +16,75 @@ use Rattle.judge_along.proofs.rank_at.Tie as tie
 abbrev term : List ℤ → List ℤ → ℕ → ℤ
 term rank state j = get_or rank j (pos 0) *ℤ get_or state j (pos 0)
 
-abbrev invariant-loop : tie.invariant-loop
-invariant-loop rank state total₀ j₀ j-end total j =
+abbrev invariant-loop-j : tie.invariant-loop-j
+invariant-loop-j rank state total₀ j₀ j-end total j =
     (j-end ≡ length rank) × (j ≤ length rank) × SumOf j most_rank (term rank state) total.sum
 
-abbrev decreases-loop : tie.decreases-loop
-decreases-loop rank state total₀ j₀ j-end total j = length rank - j
+abbrev decreases-loop-j : tie.decreases-loop-j
+decreases-loop-j rank state total₀ j₀ j-end total j = length rank - j
 
-new-requires : tie.Need-new-requires invariant-loop decreases-loop
+new-requires : tie.Need-new-total-requires invariant-loop-j decreases-loop-j
 new-requires c κs = search rules
 
-loop-holds : tie.Need-loop-init invariant-loop decreases-loop
+loop-holds : tie.Need-loop-j-init invariant-loop-j decreases-loop-j
 loop-holds c =
-    let args = c.before.args in
-    (refl, omega arith, sum_none most_rank (term args.rank.now args.state.now) c.new.ensures)
+    let args = c.args in
+    (refl, omega arith, sum_none most_rank (term args.rank.now args.state.now) c.new-total.ensures)
 
-mul-plus : tie.Need-overflow-mul-plus invariant-loop decreases-loop
+mul-plus : tie.Need-offset_bounds-rank-j invariant-loop-j decreases-loop-j
 mul-plus c = search rules
 
-shared-slice-copy-out-plus : tie.Need-shared-slice-copy-out-plus invariant-loop decreases-loop
+shared-slice-copy-out-plus : tie.Need-bounds-rank-j invariant-loop-j decreases-loop-j
 shared-slice-copy-out-plus c = search rules
 
-mul-plus-2 : tie.Need-overflow-mul-plus-2 invariant-loop decreases-loop
+mul-plus-2 : tie.Need-offset_bounds-state-j invariant-loop-j decreases-loop-j
 mul-plus-2 c = search rules
 
-shared-slice-copy-out-plus-2 : tie.Need-shared-slice-copy-out-plus-2 invariant-loop decreases-loop
+shared-slice-copy-out-plus-2 : tie.Need-bounds-state-j invariant-loop-j decreases-loop-j
 shared-slice-copy-out-plus-2 c = search rules
 
-plus-requires : tie.Need-plus-requires invariant-loop decreases-loop
+plus-requires : tie.Need-plus-total-requires invariant-loop-j decreases-loop-j
 plus-requires c κs =
     let turn = c.before.before.before in
     let start = turn.before.before in
     let rank = start.args.rank.now in
     let state = start.args.state.now in
-    may_add (get_or rank turn.loop.j (pos 0)) (get_or state turn.loop.j (pos 0)) 274877906944 1048576 (start.requires.2 turn.loop.j) (start.requires.3 turn.loop.j)
-    (omega arith) turn.loop.total.sum (omega (arith, turn.loop.invariant.2.small))
+    may_add (get_or rank turn.loop-j.j (pos 0)) (get_or state turn.loop-j.j (pos 0)) 274877906944 1048576 (start.requires.2 turn.loop-j.j) (start.requires.3 turn.loop-j.j)
+    (omega arith) turn.loop-j.total.sum (omega (arith, turn.loop-j.invariant.2.small))
 
-add-j : tie.Need-overflow-add-j invariant-loop decreases-loop
+add-j : tie.Need-overflow_step-j invariant-loop-j decreases-loop-j
 add-j c = search rules
 
-loop-less : tie.Need-loop-smaller invariant-loop decreases-loop
+loop-less : tie.Need-loop-j-smaller invariant-loop-j decreases-loop-j
 loop-less c = search rules
 
-loop-again : tie.Need-loop-preserved invariant-loop decreases-loop
+loop-again : tie.Need-loop-j-preserved invariant-loop-j decreases-loop-j
 loop-again c =
     let turn = c.before.before.before.before in
     let start = turn.before.before in
     let rank = start.args.rank.now in
     let state = start.args.state.now in (
-      turn.loop.invariant.0,
+      turn.loop-j.invariant.0,
       omega arith,
-      sum_more most_rank (term rank state) turn.loop.j turn.loop.invariant.2
-          (added (get_or rank turn.loop.j (pos 0)) (get_or state turn.loop.j (pos 0)) 274877906944 1048576 (start.requires.2 turn.loop.j) (start.requires.3 turn.loop.j)
-          (omega arith) refl refl c.plus.ensures),
+      sum_more most_rank (term rank state) turn.loop-j.j turn.loop-j.invariant.2
+          (added (get_or rank turn.loop-j.j (pos 0)) (get_or state turn.loop-j.j (pos 0)) 274877906944 1048576 (start.requires.2 turn.loop-j.j) (start.requires.3 turn.loop-j.j)
+          (omega arith) refl refl c.plus-total.ensures),
     )
 
-returns : tie.Need-returns invariant-loop decreases-loop
+returns : tie.Need-returns invariant-loop-j decreases-loop-j
 returns c =
-    let rank = c.before.before.before.args.rank.now in
-    let state = c.before.before.before.args.state.now in
-    let end : c.before.loop.j ≡ length rank = omega arith in
-    let sum = rw end at c.before.loop.invariant.2 in
+    let rank = c.args.rank.now in
+    let state = c.args.state.now in
+    let end : c.loop-j.j ≡ length rank = omega arith in
+    let sum = rw end at c.loop-j.invariant.2 in
     (sum.is ∙ sym (dot_total (length rank) rank state (omega arith)), sum.small)
 
-pub rank-at-spec : {M : Type 1} → statement M
-rank-at-spec =
+pub rank_at_spec : {M : Type 1} → statement M
+rank_at_spec =
     tie.close
     (tie.spec
-    invariant-loop
-    decreases-loop
+    invariant-loop-j
+    decreases-loop-j
     new-requires
     loop-holds
     mul-plus

@@ -11,11 +11,11 @@ use Rattle.judge_conditions.proofs.minus.Tie as tie
 small : (c : tie.Start) → nat_abs (neg_ℤ c.args.z) ≤ 2147483648
 small c = omega (arith, abs_neg c.args.z, c.requires)
 
-sub-result : tie.Need-overflow-sub-result
+sub-result : tie.Need-overflow_sub-result
 sub-result c = rw (to_z-of_z c.ranges.z, +ℤ_idl (neg_ℤ c.args.z)) (fits_abs (omega (arith, small c)))
 
 returns : tie.Need-returns
 returns c = rw (to_z-of_z c.ranges.z, +ℤ_idl (neg_ℤ c.args.z), back {z = neg_ℤ c.args.z} (omega (arith, small c))) (refl, small c)
 
-pub minus-spec : {M : Type 1} → statement M
-minus-spec = tie.close (tie.spec sub-result returns)
+pub minus_spec : {M : Type 1} → statement M
+minus_spec = tie.close (tie.spec sub-result returns)

@@ -7,23 +7,23 @@ use Rattle.refusal.proofs.PlaceLaws.{before_grows, before_fails, before_failed}
 use Rattle.judge_conditions.proofs.remember.Statement.{statement}
 use Rattle.judge_conditions.proofs.remember.Tie as tie
 
-returns : tie.Need-returns
+returns : tie.Need-returns-then-not-holds
 returns c =
-    let a = c.before.args in
-    λ test so_far here. so_far ∙ sym (before_fails a.i test (sym here ∙ not-true a.holds c.if1.true))
+    let a = c.args in
+    λ test so_far here. so_far ∙ sym (before_fails a.i test (sym here ∙ c.if-not-holds.true))
 
-returns-2 : tie.Need-returns-2
+returns-2 : tie.Need-returns-then-late-i
 returns-2 c =
-    let a = c.before.before.args in
-    λ test so_far here. so_far ∙ sym (before_failed a.i test (λ all. c.if2.true (so_far ∙ all)))
+    let a = c.args in
+    λ test so_far here. so_far ∙ sym (before_failed a.i test (λ all. c.if-late-i.true (so_far ∙ all)))
 
-add-result : tie.Need-overflow-add-result
+add-result : tie.Need-overflow_add-result
 add-result c = search rules
 
-returns-3 : tie.Need-returns-3
+returns-3 : tie.Need-returns
 returns-3 c =
-    let a = c.before.before.args in
-    λ test so_far here. sym (before_grows a.i test (sym so_far ∙ c.if2.false) (sym here ∙ not-false a.holds c.before.if1.false))
+    let a = c.args in
+    λ test so_far here. sym (before_grows a.i test (sym so_far ∙ c.if-late-i.false) (sym here ∙ c.if-not-holds.false))
 
-pub remember-spec : {M : Type 1} → statement M
-remember-spec = tie.close (tie.spec returns returns-2 add-result returns-3)
+pub remember_spec : {M : Type 1} → statement M
+remember_spec = tie.close (tie.spec returns returns-2 add-result returns-3)

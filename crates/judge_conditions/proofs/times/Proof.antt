@@ -11,10 +11,10 @@ use Rattle.judge_conditions.proofs.Totals.{times_small}
 use Rattle.judge_conditions.proofs.times.Statement.{statement}
 use Rattle.judge_conditions.proofs.times.Tie as tie
 
-cast-result : tie.Need-overflow-cast-result
+cast-result : tie.Need-overflow_cast-result
 cast-result c = search rules
 
-mul-result : tie.Need-overflow-mul-result
+mul-result : tie.Need-overflow_mul-result
 mul-result c =
     let k-is : to_z w64 c.args.k ≡ pos c.args.k = to_z_pos w64 (omega arith) in
     rw (k-is, to_z-of_z c.ranges.z) (fits_abs (omega (arith, times_small c.args.k c.args.z c.requires.0 c.requires.1)))
@@ -26,5 +26,5 @@ returns c =
     let fits : SFits w64 (pos c.args.k *ℤ c.args.z) = fits_abs (omega arith) in
     rw (k-is, to_z-of_z c.ranges.z, to_z-of_z fits) (refl, small)
 
-pub times-spec : {M : Type 1} → statement M
-times-spec = tie.close (tie.spec cast-result mul-result returns)
+pub times_spec : {M : Type 1} → statement M
+times_spec = tie.close (tie.spec cast-result mul-result returns)

@@ -17,89 +17,89 @@ use Rattle.judge_exclusion.proofs.ExcludedLaws.{stays_at, meets_at, direction_to
 use Rattle.judge_exclusion.proofs.exclusion.Statement.{statement}
 use Rattle.judge_exclusion.proofs.exclusion.Tie as tie
 
-abbrev invariant-loop : tie.invariant-loop
-invariant-loop rows start n m certificate stride at₀ late₀ i₀ at late i =
+abbrev invariant-loop-i : tie.invariant-loop-i
+invariant-loop-i rows start n m certificate stride at₀ late₀ i₀ at late i =
     (i ≤ m) × (at ≡ row_place start n i) × Throughout i (λ k. stays_at rows certificate start n m k ≡ true) × (late ≡ before_failing i (meets_at rows certificate start n m))
 
-abbrev decreases-loop : tie.decreases-loop
-decreases-loop rows start n m certificate stride at₀ late₀ i₀ at late i = m - i
+abbrev decreases-loop-i : tie.decreases-loop-i
+decreases-loop-i rows start n m certificate stride at₀ late₀ i₀ at late i = m - i
 
 -- the row of this turn lies within the bytes
-inside : (c : tie.In-loop invariant-loop decreases-loop) → let a = c.before.before.before.before.args in row_place a.start a.n (c.before.loop.i + 1) ≤ length a.rows.now
+inside : (c : tie.In-loop-i invariant-loop-i decreases-loop-i) → let a = c.args in row_place a.start a.n (c.loop-i.i + 1) ≤ length a.rows.now
 inside c =
     let start = c.before.before.before.before in
-    row_inside start.args.rows.now start.args.start start.args.n start.args.m c.before.loop.i start.requires.0 c.loop-test.true
+    row_inside start.args.rows.now start.args.start start.args.n start.args.m c.loop-i.i start.requires.0 c.loop-i-test.true
 
-mul-stride : tie.Need-overflow-mul-stride invariant-loop decreases-loop
+mul-stride : tie.Need-overflow_mul-stride invariant-loop-i decreases-loop-i
 mul-stride c = search rules
 
-add-stride : tie.Need-overflow-add-stride invariant-loop decreases-loop
+add-stride : tie.Need-overflow_add-stride invariant-loop-i decreases-loop-i
 add-stride c = search rules
 
-loop-holds : tie.Need-loop-init invariant-loop decreases-loop
+loop-holds : tie.Need-loop-i-init invariant-loop-i decreases-loop-i
 unfolding before_failing
 loop-holds c = (search rules, omega arith, λ k h. absurd (omega arith), refl)
 
-row-holds-requires : tie.Need-row-holds-requires invariant-loop decreases-loop
+row-holds-requires : tie.Need-row_holds-holds-requires invariant-loop-i decreases-loop-i
 row-holds-requires c κs = let s = c.before.before.before.before in (omega (arith, inside c), s.requires.2, s.requires.1)
 
-returns : tie.Need-returns invariant-loop decreases-loop
+returns : tie.Need-returns-then-not-holds invariant-loop-i decreases-loop-i
 unfolding fault_of number place
 returns c =
     let asked = c.before.before in
     let l = asked.before.before in
-    let a = l.before.before.before.args in
+    let a = l.args in
     rw
-    (direction_told a.rows.now a.certificate.now a.start a.n a.m l.loop.i asked.before.loop-test.true
-    (rw l.loop.invariant.1 at (sym asked.row-holds.ensures.0) ∙ not-true asked.row-holds.result.direction c.if1.true) l.loop.invariant.2)
+    (direction_told a.rows.now a.certificate.now a.start a.n a.m l.loop-i.i asked.loop-i-test.true
+    (rw l.loop-i.invariant.1 at (sym asked.row_holds-holds.ensures.0) ∙ c.if-not-holds.true) l.loop-i.invariant.2)
 
-remember-requires : tie.Need-remember-requires invariant-loop decreases-loop
-remember-requires c κs = let l = c.before.before.before.before in omega (arith, l.before.before.before.requires.0.few, c.before.before.before.loop-test.true)
+remember-requires : tie.Need-remember-late-requires invariant-loop-i decreases-loop-i
+remember-requires c κs = let l = c.before.before.before.before in omega (arith, l.requires.0.few, c.loop-i-test.true)
 
-add_at : tie.Need-overflow-add-at invariant-loop decreases-loop
+add_at : tie.Need-overflow_add-at invariant-loop-i decreases-loop-i
 add_at c = omega (arith, inside c.before.before.before.before)
 
-add-i : tie.Need-overflow-add-i invariant-loop decreases-loop
+add-i : tie.Need-overflow_step-i invariant-loop-i decreases-loop-i
 add-i c = search rules
 
-loop-less : tie.Need-loop-smaller invariant-loop decreases-loop
+loop-less : tie.Need-loop-i-smaller invariant-loop-i decreases-loop-i
 loop-less c = search rules
 
-loop-again : tie.Need-loop-preserved invariant-loop decreases-loop
+loop-again : tie.Need-loop-i-preserved invariant-loop-i decreases-loop-i
 loop-again c =
     let asked = c.before.before.before in
-    let l = asked.before.before.loop in
-    let a = asked.before.before.before.before.before.args in (
+    let l = asked.loop-i in
+    let a = asked.args in (
       omega arith,
       omega arith,
-      below_more _ l.i l.invariant.2 (rw l.invariant.1 at (sym asked.row-holds.ensures.0) ∙ not-false asked.row-holds.result.direction c.before.if1.false),
-      c.remember.ensures (meets_at a.rows.now a.certificate.now a.start a.n a.m) l.invariant.3 (rw l.invariant.1 at asked.row-holds.ensures.1),
+      below_more _ l.i l.invariant.2 (rw l.invariant.1 at (sym asked.row_holds-holds.ensures.0) ∙ c.if-not-holds.false),
+      c.remember-late.ensures (meets_at a.rows.now a.certificate.now a.start a.n a.m) l.invariant.3 (rw l.invariant.1 at asked.row_holds-holds.ensures.1),
     )
 
-returns-2 : tie.Need-returns-2 invariant-loop decreases-loop
+returns-2 : tie.Need-returns-then-late-m invariant-loop-i decreases-loop-i
 unfolding fault_of number place
 returns-2 c =
     let l = c.before.before in
-    let a = l.before.before.before.args in
-    let end : l.loop.i ≡ a.m = omega arith in
+    let a = l.args in
+    let end : l.loop-i.i ≡ a.m = omega arith in
     rw
-    (step_told a.rows.now a.certificate.now a.start a.n a.m (rw end at l.loop.invariant.2) l.loop.late (rw end at l.loop.invariant.3) c.if2.true)
+    (step_told a.rows.now a.certificate.now a.start a.n a.m (rw end at l.loop-i.invariant.2) l.loop-i.late (rw end at l.loop-i.invariant.3) c.if-late-m.true)
 
-returns-3 : tie.Need-returns-3 invariant-loop decreases-loop
+returns-3 : tie.Need-returns invariant-loop-i decreases-loop-i
 unfolding fault_of number place
 returns-3 c =
     let l = c.before.before in
-    let a = l.before.before.before.args in
-    let end : l.loop.i ≡ a.m = omega arith in
+    let a = l.args in
+    let end : l.loop-i.i ≡ a.m = omega arith in
     rw
-    (none_told a.rows.now a.certificate.now a.start a.n a.m (rw end at l.loop.invariant.2) l.loop.late (rw end at l.loop.invariant.3) (omega (arith, c.if2.false)))
+    (none_told a.rows.now a.certificate.now a.start a.n a.m (rw end at l.loop-i.invariant.2) l.loop-i.late (rw end at l.loop-i.invariant.3) (omega (arith, c.if-late-m.false)))
 
-pub exclusion-spec : {M : Type 1} → statement M
-exclusion-spec =
+pub exclusion_spec : {M : Type 1} → statement M
+exclusion_spec =
     tie.close
     (tie.spec
-    invariant-loop
-    decreases-loop
+    invariant-loop-i
+    decreases-loop-i
     mul-stride
     add-stride
     loop-holds

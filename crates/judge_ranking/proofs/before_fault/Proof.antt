@@ -12,73 +12,73 @@ use Rattle.judge_ranking.specs.RankedBy.{HoldBefore}
 use Rattle.judge_ranking.proofs.before_fault.Statement.{statement}
 use Rattle.judge_ranking.proofs.before_fault.Tie as tie
 
-abbrev invariant-loop : tie.invariant-loop
-invariant-loop ys zs n ylift zlift j₀ j = (j ≤ n) × HoldBefore j ys (to_z w64 ylift) zs (to_z w64 zlift) n
+abbrev invariant-loop-j : tie.invariant-loop-j
+invariant-loop-j ys zs n ylift zlift j₀ j = (j ≤ n) × HoldBefore j ys (to_z w64 ylift) zs (to_z w64 zlift) n
 
-abbrev decreases-loop : tie.decreases-loop
-decreases-loop ys zs n ylift zlift j₀ j = n - j
+abbrev decreases-loop-j : tie.decreases-loop-j
+decreases-loop-j ys zs n ylift zlift j₀ j = n - j
 
-loop-holds : tie.Need-loop-init invariant-loop decreases-loop
+loop-holds : tie.Need-loop-j-init invariant-loop-j decreases-loop-j
 loop-holds c = (search rules, λ k below. absurd (omega arith))
 
-column-holds-requires : tie.Need-column-holds-requires invariant-loop decreases-loop
+column-holds-requires : tie.Need-column_holds-holds-requires invariant-loop-j decreases-loop-j
 column-holds-requires c κs =
     let s = c.before.before in
     let p = s.requires in
-    (p.0, p.1, p.2, c.loop-test.true, p.3, p.4, rw (to_z-of_z s.ranges.ylift) p.5, rw (to_z-of_z s.ranges.zlift) p.6)
+    (p.0, p.1, p.2, c.loop-j-test.true, p.3, p.4, rw (to_z-of_z s.ranges.ylift) p.5, rw (to_z-of_z s.ranges.zlift) p.6)
 
-returns : tie.Need-returns invariant-loop decreases-loop
+returns : tie.Need-returns-then-not-holds invariant-loop-j decreases-loop-j
 returns c =
     let l = c.before.before.before.before in
     let s = l.before in
-    (l.loop.invariant.0, rw (to_z-of_z s.ranges.ylift, to_z-of_z s.ranges.zlift) at l.loop.invariant.1)
+    (l.loop-j.invariant.0, rw (to_z-of_z s.ranges.ylift, to_z-of_z s.ranges.zlift) at l.loop-j.invariant.1)
 
-returns-2 : tie.Need-returns-2 invariant-loop decreases-loop
+returns-2 : tie.Need-returns-then-not-holds-2 invariant-loop-j decreases-loop-j
 returns-2 c =
     let l = c.before.before.before.before.before.before in
     let s = l.before in
-    (l.loop.invariant.0, rw (to_z-of_z s.ranges.ylift, to_z-of_z s.ranges.zlift) at l.loop.invariant.1)
+    (l.loop-j.invariant.0, rw (to_z-of_z s.ranges.ylift, to_z-of_z s.ranges.zlift) at l.loop-j.invariant.1)
 
-returns-3 : tie.Need-returns-3 invariant-loop decreases-loop
+returns-3 : tie.Need-returns-then-not-holds-3 invariant-loop-j decreases-loop-j
 returns-3 c =
     let l = c.before.before.before.before.before.before.before.before in
     let s = l.before in
-    (l.loop.invariant.0, rw (to_z-of_z s.ranges.ylift, to_z-of_z s.ranges.zlift) at l.loop.invariant.1)
+    (l.loop-j.invariant.0, rw (to_z-of_z s.ranges.ylift, to_z-of_z s.ranges.zlift) at l.loop-j.invariant.1)
 
-add-j : tie.Need-overflow-add-j invariant-loop decreases-loop
+add-j : tie.Need-overflow_step-j invariant-loop-j decreases-loop-j
 add-j c = search rules
 
-loop-less : tie.Need-loop-smaller invariant-loop decreases-loop
+loop-less : tie.Need-loop-j-smaller invariant-loop-j decreases-loop-j
 loop-less c = search rules
 
-loop-again : tie.Need-loop-preserved invariant-loop decreases-loop
+loop-again : tie.Need-loop-j-preserved invariant-loop-j decreases-loop-j
 loop-again c =
     let second = c.before.before in
     let first = second.before.before in
     let asked = first.before.before in
-    let holds = asked.column-holds in
-    let l = asked.before.before.loop in (
+    let holds = asked.column_holds-holds in
+    let l = asked.loop-j in (
       search rules,
       below_more _ l.j l.invariant.1 (
-        sym holds.ensures.0 ∙ not-false holds.result.first first.if1.false,
-        sym holds.ensures.1 ∙ not-false holds.result.second second.if2.false,
-        sym holds.ensures.2 ∙ not-false holds.result.third c.if3.false,
+        sym holds.ensures.0 ∙ not-false holds.result.first first.if-not-holds.false,
+        sym holds.ensures.1 ∙ not-false holds.result.second second.if-not-holds-2.false,
+        sym holds.ensures.2 ∙ not-false holds.result.third c.if-not-holds-3.false,
       ),
     )
 
-returns-4 : tie.Need-returns-4 invariant-loop decreases-loop
+returns-4 : tie.Need-returns invariant-loop-j decreases-loop-j
 returns-4 c =
     let l = c.before in
     let s = l.before in
-    let end : l.loop.j ≡ s.args.n = omega arith in
-    (omega arith, rw (to_z-of_z s.ranges.ylift, to_z-of_z s.ranges.zlift, end) at l.loop.invariant.1)
+    let end : l.loop-j.j ≡ s.args.n = omega arith in
+    (omega arith, rw (to_z-of_z s.ranges.ylift, to_z-of_z s.ranges.zlift, end) at l.loop-j.invariant.1)
 
-pub before-fault-spec : {M : Type 1} → statement M
-before-fault-spec =
+pub before_fault_spec : {M : Type 1} → statement M
+before_fault_spec =
     tie.close
     (tie.spec
-    invariant-loop
-    decreases-loop
+    invariant-loop-j
+    decreases-loop-j
     loop-holds
     column-holds-requires
     returns

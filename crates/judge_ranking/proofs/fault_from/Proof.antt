@@ -19,16 +19,16 @@ use Rattle.judge_ranking.proofs.RankedLaws.{first_told, second_told, third_told,
 use Rattle.judge_ranking.proofs.fault_from.Statement.{statement}
 use Rattle.judge_ranking.proofs.fault_from.Tie as tie
 
-abbrev invariant-loop : tie.invariant-loop
-invariant-loop ys zs n from ylift zlift second₀ third₀ j₀ second third j =
+abbrev invariant-loop-j : tie.invariant-loop-j
+invariant-loop-j ys zs n from ylift zlift second₀ third₀ j₀ second third j =
     (j ≤ n) × Throughout j (λ k. holds_at 21 ys (to_z w64 ylift) zs (to_z w64 zlift) n k ≡ true)
     × (second ≡ before_failing j (holds_at 22 ys (to_z w64 ylift) zs (to_z w64 zlift) n))
     × (third ≡ before_failing j (holds_at 23 ys (to_z w64 ylift) zs (to_z w64 zlift) n))
 
-abbrev decreases-loop : tie.decreases-loop
-decreases-loop ys zs n from ylift zlift second₀ third₀ j₀ second third j = n - j
+abbrev decreases-loop-j : tie.decreases-loop-j
+decreases-loop-j ys zs n from ylift zlift second₀ third₀ j₀ second third j = n - j
 
-loop-holds : tie.Need-loop-init invariant-loop decreases-loop
+loop-holds : tie.Need-loop-j-init invariant-loop-j decreases-loop-j
 loop-holds c =
     rw (to_z-of_z c.ranges.ylift, to_z-of_z c.ranges.zlift) (
       c.requires.7,
@@ -37,13 +37,13 @@ loop-holds c =
       sym (before_all c.args.from _ (λ k below. (c.requires.8 k below).2)),
     )
 
-column-holds-requires : tie.Need-column-holds-requires invariant-loop decreases-loop
+column-holds-requires : tie.Need-column_holds-column-requires invariant-loop-j decreases-loop-j
 column-holds-requires c κs =
     let s = c.before.before in
     let p = s.requires in
-    (p.0, p.1, p.2, c.loop-test.true, p.3, p.4, rw (to_z-of_z s.ranges.ylift) p.5, rw (to_z-of_z s.ranges.zlift) p.6)
+    (p.0, p.1, p.2, c.loop-j-test.true, p.3, p.4, rw (to_z-of_z s.ranges.ylift) p.5, rw (to_z-of_z s.ranges.zlift) p.6)
 
-returns : tie.Need-returns invariant-loop decreases-loop
+returns : tie.Need-returns-then-not-column invariant-loop-j decreases-loop-j
 unfolding fault_of number place
 returns c =
     let asked = c.before.before in
@@ -51,80 +51,80 @@ returns c =
     let s = l.before in
     let a = s.args in
     rw
-    (first_told a.ys.now a.ylift a.zs.now a.zlift a.n l.loop.j asked.before.loop-test.true
-    (rw (to_z-of_z s.ranges.ylift, to_z-of_z s.ranges.zlift) at (sym asked.column-holds.ensures.0 ∙ not-true asked.column-holds.result.first c.if1.true))
-    (rw (to_z-of_z s.ranges.ylift, to_z-of_z s.ranges.zlift) at l.loop.invariant.1))
+    (first_told a.ys.now a.ylift a.zs.now a.zlift a.n l.loop-j.j asked.loop-j-test.true
+    (rw (to_z-of_z s.ranges.ylift, to_z-of_z s.ranges.zlift) at (sym asked.column_holds-column.ensures.0 ∙ not-true asked.column_holds-column.result.first c.if-not-column.true))
+    (rw (to_z-of_z s.ranges.ylift, to_z-of_z s.ranges.zlift) at l.loop-j.invariant.1))
 
-remember-requires : tie.Need-remember-requires invariant-loop decreases-loop
+remember-requires : tie.Need-remember-second-requires invariant-loop-j decreases-loop-j
 remember-requires c κs =
     let asked = c.before.before in
-    omega (arith, asked.before.loop-test.true, asked.before.before.before.requires.2)
+    omega (arith, asked.loop-j-test.true, asked.requires.2)
 
-remember-requires-2 : tie.Need-remember-requires-2 invariant-loop decreases-loop
+remember-requires-2 : tie.Need-remember-third-requires invariant-loop-j decreases-loop-j
 remember-requires-2 c κs =
     let asked = c.before.before.before in
-    omega (arith, asked.before.loop-test.true, asked.before.before.before.requires.2)
+    omega (arith, asked.loop-j-test.true, asked.requires.2)
 
-add-j : tie.Need-overflow-add-j invariant-loop decreases-loop
+add-j : tie.Need-overflow_step-j invariant-loop-j decreases-loop-j
 add-j c = search rules
 
-loop-less : tie.Need-loop-smaller invariant-loop decreases-loop
+loop-less : tie.Need-loop-j-smaller invariant-loop-j decreases-loop-j
 loop-less c = search rules
 
-loop-again : tie.Need-loop-preserved invariant-loop decreases-loop
+loop-again : tie.Need-loop-j-preserved invariant-loop-j decreases-loop-j
 loop-again c =
     let first = c.before.before in
     let asked = first.before.before in
-    let holds = asked.column-holds in
+    let holds = asked.column_holds-column in
     let l = asked.before.before in
-    let a = l.before.args in (
+    let a = l.args in (
       omega arith,
-      below_more _ l.loop.j l.loop.invariant.1 (sym holds.ensures.0 ∙ not-false holds.result.first first.if1.false),
-      c.before.remember.ensures (holds_at 22 a.ys.now (to_z w64 (of_z w64 a.ylift)) a.zs.now (to_z w64 (of_z w64 a.zlift)) a.n) l.loop.invariant.2 holds.ensures.1,
-      c.remember2.ensures (holds_at 23 a.ys.now (to_z w64 (of_z w64 a.ylift)) a.zs.now (to_z w64 (of_z w64 a.zlift)) a.n) l.loop.invariant.3 holds.ensures.2,
+      below_more _ l.loop-j.j l.loop-j.invariant.1 (sym holds.ensures.0 ∙ not-false holds.result.first first.if-not-column.false),
+      c.remember-second.ensures (holds_at 22 a.ys.now (to_z w64 (of_z w64 a.ylift)) a.zs.now (to_z w64 (of_z w64 a.zlift)) a.n) l.loop-j.invariant.2 holds.ensures.1,
+      c.remember-third.ensures (holds_at 23 a.ys.now (to_z w64 (of_z w64 a.ylift)) a.zs.now (to_z w64 (of_z w64 a.zlift)) a.n) l.loop-j.invariant.3 holds.ensures.2,
     )
 
-returns-2 : tie.Need-returns-2 invariant-loop decreases-loop
+returns-2 : tie.Need-returns-then-second-n invariant-loop-j decreases-loop-j
 unfolding fault_of number place
 returns-2 c =
     let l = c.before.before in
     let s = l.before in
     let a = s.args in
-    let end : l.loop.j ≡ a.n = omega arith in
+    let end : l.loop-j.j ≡ a.n = omega arith in
     rw
-    (second_told a.ys.now a.ylift a.zs.now a.zlift a.n (rw (to_z-of_z s.ranges.ylift, to_z-of_z s.ranges.zlift, end) at l.loop.invariant.1)
-    l.loop.second (rw (to_z-of_z s.ranges.ylift, to_z-of_z s.ranges.zlift, end) at l.loop.invariant.2) c.if2.true)
+    (second_told a.ys.now a.ylift a.zs.now a.zlift a.n (rw (to_z-of_z s.ranges.ylift, to_z-of_z s.ranges.zlift, end) at l.loop-j.invariant.1)
+    l.loop-j.second (rw (to_z-of_z s.ranges.ylift, to_z-of_z s.ranges.zlift, end) at l.loop-j.invariant.2) c.if-second-n.true)
 
-returns-3 : tie.Need-returns-3 invariant-loop decreases-loop
+returns-3 : tie.Need-returns-then-third-n invariant-loop-j decreases-loop-j
 unfolding fault_of number place
 returns-3 c =
     let l = c.before.before.before in
     let s = l.before in
     let a = s.args in
-    let end : l.loop.j ≡ a.n = omega arith in
+    let end : l.loop-j.j ≡ a.n = omega arith in
     rw
-    (third_told a.ys.now a.ylift a.zs.now a.zlift a.n (rw (to_z-of_z s.ranges.ylift, to_z-of_z s.ranges.zlift, end) at l.loop.invariant.1)
-    l.loop.second (rw (to_z-of_z s.ranges.ylift, to_z-of_z s.ranges.zlift, end) at l.loop.invariant.2)
-    l.loop.third (rw (to_z-of_z s.ranges.ylift, to_z-of_z s.ranges.zlift, end) at l.loop.invariant.3) (omega (arith, c.before.if2.false)) c.if3.true)
+    (third_told a.ys.now a.ylift a.zs.now a.zlift a.n (rw (to_z-of_z s.ranges.ylift, to_z-of_z s.ranges.zlift, end) at l.loop-j.invariant.1)
+    l.loop-j.second (rw (to_z-of_z s.ranges.ylift, to_z-of_z s.ranges.zlift, end) at l.loop-j.invariant.2)
+    l.loop-j.third (rw (to_z-of_z s.ranges.ylift, to_z-of_z s.ranges.zlift, end) at l.loop-j.invariant.3) (omega (arith, c.if-second-n.false)) c.if-third-n.true)
 
-returns-4 : tie.Need-returns-4 invariant-loop decreases-loop
+returns-4 : tie.Need-returns invariant-loop-j decreases-loop-j
 unfolding fault_of number place
 returns-4 c =
     let l = c.before.before.before in
     let s = l.before in
     let a = s.args in
-    let end : l.loop.j ≡ a.n = omega arith in
+    let end : l.loop-j.j ≡ a.n = omega arith in
     rw
-    (none_told a.ys.now a.ylift a.zs.now a.zlift a.n (rw (to_z-of_z s.ranges.ylift, to_z-of_z s.ranges.zlift, end) at l.loop.invariant.1)
-    l.loop.second (rw (to_z-of_z s.ranges.ylift, to_z-of_z s.ranges.zlift, end) at l.loop.invariant.2)
-    l.loop.third (rw (to_z-of_z s.ranges.ylift, to_z-of_z s.ranges.zlift, end) at l.loop.invariant.3) (omega (arith, c.before.if2.false)) (omega (arith, c.if3.false)))
+    (none_told a.ys.now a.ylift a.zs.now a.zlift a.n (rw (to_z-of_z s.ranges.ylift, to_z-of_z s.ranges.zlift, end) at l.loop-j.invariant.1)
+    l.loop-j.second (rw (to_z-of_z s.ranges.ylift, to_z-of_z s.ranges.zlift, end) at l.loop-j.invariant.2)
+    l.loop-j.third (rw (to_z-of_z s.ranges.ylift, to_z-of_z s.ranges.zlift, end) at l.loop-j.invariant.3) (omega (arith, c.if-second-n.false)) (omega (arith, c.if-third-n.false)))
 
-pub fault-from-spec : {M : Type 1} → statement M
-fault-from-spec =
+pub fault_from_spec : {M : Type 1} → statement M
+fault_from_spec =
     tie.close
     (tie.spec
-    invariant-loop
-    decreases-loop
+    invariant-loop-j
+    decreases-loop-j
     loop-holds
     column-holds-requires
     returns

@@ -9,72 +9,72 @@ use Rattle.judge_ranking.proofs.over_many.Tie as tie
 
 -- ---- the places of this proof: the first three conditions asked, the rows added, and the start of the call
 
-abbrev asked : tie.After-struct-told5 → tie.After-columns-fault
+abbrev asked : tie.After-struct_told-5-1 → tie.After-columns_fault-fault
 asked c = c.before.before.before.before.before
 
-abbrev added : tie.After-columns-fault → tie.After-add-rows
+abbrev added : tie.After-columns_fault-fault → tie.After-add_rows-beside
 added c = c.before.before.before.before.before.before.before.before.before
 
-abbrev start : tie.After-add-rows → tie.Start
+abbrev start : tie.After-add_rows-beside → tie.Start
 start c = c.before.before.before.before.before
 
-summed : (c : tie.After-add-rows)
+summed : (c : tie.After-add_rows-beside)
     → Summed 32 (start c).args.rows.now (start c).args.certificate.now (start c).args.start (start c).args.n (start c).args.m
-    c.add-rows.new.0 c.add-rows.new.1.0 c.add-rows.result
+    c.add_rows-beside.new.0 c.add_rows-beside.new.1.0 c.add_rows-beside.result
 summed c =
     let p = (start c).requires in
-    record { narrow = omega (arith, p.1); few = p.2; wide = omega (arith, p.1); added = c.add-rows.ensures }
+    record { narrow = omega (arith, p.1); few = p.2; wide = omega (arith, p.1); added = c.add_rows-beside.ensures }
 
 -- ---- the needs
 
-mul-z : tie.Need-overflow-mul-z
+mul-z : tie.Need-overflow_mul-z
 mul-z c = search rules
 
-add-z : tie.Need-overflow-add-z
+add-z : tie.Need-overflow_add-z
 add-z c = search rules
 
-slice-aggregate-add-rows : tie.Need-slice-aggregate-add-rows
+slice-aggregate-add-rows : tie.Need-slice_bounds-add_rows-end
 slice-aggregate-add-rows c = search rules
 
-slice-aggregate-add-rows-2 : tie.Need-slice-aggregate-add-rows-2
+slice-aggregate-add-rows-2 : tie.Need-slice_bounds-add_rows-end-2
 slice-aggregate-add-rows-2 c = search rules
 
-add-rows-requires : tie.Need-add-rows-requires
+add-rows-requires : tie.Need-add_rows-beside-requires
 add-rows-requires c κs =
     let s = c.before.before.before.before in
     let p = s.requires in
     let wide : 2 * s.args.n ≤ 32 = omega (arith, p.1) in
     (wide, wide, zeros _ wide, zeros _ wide, p.0, omega (arith, p.3), p.3)
 
-slice-aggregate-columns-fault : tie.Need-slice-aggregate-columns-fault
+slice-aggregate-columns-fault : tie.Need-slice_bounds-columns_fault-end
 slice-aggregate-columns-fault c = search rules
 
-slice-aggregate-columns-fault-2 : tie.Need-slice-aggregate-columns-fault-2
+slice-aggregate-columns-fault-2 : tie.Need-slice_bounds-columns_fault-end-2
 slice-aggregate-columns-fault-2 c = search rules
 
-columns-fault-requires : tie.Need-columns-fault-requires
+columns-fault-requires : tie.Need-columns_fault-fault-requires
 columns-fault-requires c κs = columns_ready (summed c.before.before.before.before.before.before.before.before)
 
-slice-aggregate-by-totals : tie.Need-slice-aggregate-by-totals
+slice-aggregate-by-totals : tie.Need-slice_bounds-by_totals-end
 slice-aggregate-by-totals c = search rules
 
-by-totals-requires : tie.Need-by-totals-requires
+by-totals-requires : tie.Need-by_totals-requires
 by-totals-requires c κs =
     let rows = added (asked c) in
-    totals_ready (summed rows) (start rows).pre.4
+    totals_ready (summed rows) (start rows).requires.4
 
-same_length : tie.Need-same-length
+same_length : tie.Need-shape_of-rank
 same_length c = search rules
 
 returns : tie.Need-returns
 returns c =
-    let called = c.before.by-totals in
+    let called = c.by_totals in
     let first = asked c.before.before in
     let rows = added first in
-    ranks (summed rows) first.columns-fault.result called.result (start rows).args.rank.now called.new.1.1.1.1.1.1.0 first.columns-fault.ensures called.ensures
+    ranks (summed rows) first.columns_fault-fault.result called.result (start rows).args.rank.now called.new.1.1.1.1.1.1.0 first.columns_fault-fault.ensures called.ensures
 
-pub over-many-spec : {M : Type 1} → statement M
-over-many-spec =
+pub over_many_spec : {M : Type 1} → statement M
+over_many_spec =
     tie.close
     (tie.spec
     mul-z

@@ -16,13 +16,13 @@ module _ (c : tie.Start) where
   small : nat_abs (lifted -ℤ c.args.lift) < 2305843009213693952
   small = omega (arith, abs_add lifted (neg_ℤ c.args.lift), abs_neg c.args.lift, c.requires.1, c.requires.2)
 
-mul-result : tie.Need-overflow-mul-result
+mul-result : tie.Need-offset_bounds-sums-k
 mul-result c = search rules
 
-shared-slice-copy-out-result : tie.Need-shared-slice-copy-out-result
+shared-slice-copy-out-result : tie.Need-bounds-sums-k
 shared-slice-copy-out-result c = search rules
 
-sub-result : tie.Need-overflow-sub-result
+sub-result : tie.Need-overflow_sub-result
 sub-result c =
     let s = c.before in
     rw (back {z = lifted s} (omega (arith, s.requires.1)), back {z = s.args.lift} (omega (arith, s.requires.2))) (fits_abs (omega (arith, small s)))
@@ -36,5 +36,5 @@ returns c =
       back {z = lifted s -ℤ s.args.lift} (omega (arith, small s)),
     ) (refl, small s)
 
-pub unlifted-spec : {M : Type 1} → statement M
-unlifted-spec = tie.close (tie.spec mul-result shared-slice-copy-out-result sub-result returns)
+pub unlifted_spec : {M : Type 1} → statement M
+unlifted_spec = tie.close (tie.spec mul-result shared-slice-copy-out-result sub-result returns)

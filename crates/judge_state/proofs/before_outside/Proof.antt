@@ -15,61 +15,61 @@ use Rattle.judge_state.proofs.StateLaws.{SoFar, stops, goes_on, ends}
 use Rattle.judge_state.proofs.before_outside.Statement.{statement}
 use Rattle.judge_state.proofs.before_outside.Tie as tie
 
-abbrev invariant-loop : tie.invariant-loop
-invariant-loop state i₀ i = SoFar state i
+abbrev invariant-loop-i : tie.invariant-loop-i
+invariant-loop-i state i₀ i = SoFar state i
 
-abbrev decreases-loop : tie.decreases-loop
-decreases-loop state i₀ i = length state - i
+abbrev decreases-loop-i : tie.decreases-loop-i
+decreases-loop-i state i₀ i = length state - i
 
-loop-holds : tie.Need-loop-init invariant-loop decreases-loop
+loop-holds : tie.Need-loop-i-init invariant-loop-i decreases-loop-i
 loop-holds c = (omega arith, sym (zero-add _))
 
-mul-between : tie.Need-overflow-mul-between invariant-loop decreases-loop
+mul-between : tie.Need-offset_bounds-state-i invariant-loop-i decreases-loop-i
 mul-between c = search rules
 
-shared-slice-copy-out-between : tie.Need-shared-slice-copy-out-between invariant-loop decreases-loop
+shared-slice-copy-out-between : tie.Need-bounds-state-i invariant-loop-i decreases-loop-i
 shared-slice-copy-out-between c = search rules
 
-between-requires : tie.Need-between-requires invariant-loop decreases-loop
+between-requires : tie.Need-between-requires invariant-loop-i decreases-loop-i
 between-requires c κs = tt
 
-returns : tie.Need-returns invariant-loop decreases-loop
+returns : tie.Need-returns-then-not-between invariant-loop-i decreases-loop-i
 unfolding state_entries either_way
 returns c =
     let turn = c.before.before.before.before in
-    let state = turn.before.args.state.now in
-    let i = turn.loop.i in
+    let state = turn.args.state.now in
+    let i = turn.loop-i.i in
     let out : within state_entries (get_or state i (pos 0)) ≡ false =
-    rw (to_z-of_z {w = w64} {z = get_or state i (pos 0)} (sfits_of c.before.before.between-arg.given)) at (sym c.before.between.ensures ∙ not-true _ c.if1.true)
+    rw (to_z-of_z {w = w64} {z = get_or state i (pos 0)} (sfits_of c.between-arg-1.given)) at (sym c.between.ensures ∙ c.if-not-between.true)
     in
-    stops state i turn.loop.invariant c.before.before.before.loop-test.true out
+    stops state i turn.loop-i.invariant c.loop-i-test.true out
 
-add-i : tie.Need-overflow-add-i invariant-loop decreases-loop
+add-i : tie.Need-overflow_add-i invariant-loop-i decreases-loop-i
 add-i c = search rules
 
-loop-less : tie.Need-loop-smaller invariant-loop decreases-loop
+loop-less : tie.Need-loop-i-smaller invariant-loop-i decreases-loop-i
 loop-less c = search rules
 
-loop-again : tie.Need-loop-preserved invariant-loop decreases-loop
+loop-again : tie.Need-loop-i-preserved invariant-loop-i decreases-loop-i
 unfolding state_entries either_way
 loop-again c =
     let turn = c.before.before.before.before in
-    let state = turn.before.args.state.now in
-    let i = turn.loop.i in
+    let state = turn.args.state.now in
+    let i = turn.loop-i.i in
     let inside : within state_entries (get_or state i (pos 0)) ≡ true =
-    rw (to_z-of_z {w = w64} {z = get_or state i (pos 0)} (sfits_of c.before.before.between-arg.given)) at (sym c.before.between.ensures ∙ not-false _ c.if1.false)
+    rw (to_z-of_z {w = w64} {z = get_or state i (pos 0)} (sfits_of c.between-arg-1.given)) at (sym c.between.ensures ∙ c.if-not-between.false)
     in
-    goes_on state i turn.loop.invariant c.before.before.before.loop-test.true inside
+    goes_on state i turn.loop-i.invariant c.loop-i-test.true inside
 
-returns-2 : tie.Need-returns-2 invariant-loop decreases-loop
-returns-2 c = ends c.before.before.args.state.now c.before.loop.i c.before.loop.invariant (λ h. omega (arith, h, c.loop-test.false))
+returns-2 : tie.Need-returns invariant-loop-i decreases-loop-i
+returns-2 c = ends c.args.state.now c.loop-i.i c.loop-i.invariant (λ h. omega (arith, h, c.loop-i-test.false))
 
-pub before-outside-spec : {M : Type 1} → statement M
-before-outside-spec =
+pub before_outside_spec : {M : Type 1} → statement M
+before_outside_spec =
     tie.close
     (tie.spec
-    invariant-loop
-    decreases-loop
+    invariant-loop-i
+    decreases-loop-i
     loop-holds
     mul-between
     shared-slice-copy-out-between

@@ -8,23 +8,23 @@ use borrow.Author.Rules.{rules}
 use Rattle.judge_sums.proofs.add_right.Statement.{statement}
 use Rattle.judge_sums.proofs.add_right.Tie as tie
 
-cast-plus : tie.Need-overflow-cast-plus
+cast-plus : tie.Need-overflow_cast-multiplier
 cast-plus c = search rules
 
-i32-at-requires : tie.Need-i32-at-requires
+i32-at-requires : tie.Need-i32_at-requires
 i32-at-requires c κs = search rules
 
 plus-requires : tie.Need-plus-requires
 plus-requires c κs =
     let start = c.before.before in
-    may_add (pos start.args.multiplier) c.i32-at.result 65535 2147483648 (omega arith) c.i32-at.ensures.1 (omega arith) start.args.total.sum start.requires.0
+    may_add (pos start.args.multiplier) c.i32_at.result 65535 2147483648 (omega arith) c.i32_at.ensures.1 (omega arith) start.args.total.sum start.requires.0
 
 returns : tie.Need-returns
 unfolding right_at
 returns c =
-    let read = c.before.i32-at in
-    let multiplier = pos c.before.before.before.args.multiplier in
+    let read = c.i32_at in
+    let multiplier = pos c.args.multiplier in
     added multiplier read.result 65535 2147483648 (omega arith) read.ensures.1 (omega arith) refl read.ensures.0 c.plus.ensures
 
-pub add-right-spec : {M : Type 1} → statement M
-add-right-spec = tie.close (tie.spec cast-plus i32-at-requires plus-requires returns)
+pub add_right_spec : {M : Type 1} → statement M
+add_right_spec = tie.close (tie.spec cast-plus i32-at-requires plus-requires returns)

@@ -11,123 +11,123 @@ use borrow.Author.Rules.{rules, sfits_of}
 use Rattle.judge_sums.proofs.add_row.Statement.{statement}
 use Rattle.judge_sums.proofs.add_row.Tie as tie
 
-abbrev invariant-loop : tie.invariant-loop
-invariant-loop ys₀ zs₀ y z rows row width k₀ ys zs k = (k ≤ width) × RowAdded y rows row k ys₀ ys × RowAdded z rows row k zs₀ zs
+abbrev invariant-loop-k : tie.invariant-loop-k
+invariant-loop-k ys₀ zs₀ y z rows row width k₀ ys zs k = (k ≤ width) × RowAdded y rows row k ys₀ ys × RowAdded z rows row k zs₀ zs
 
-abbrev decreases-loop : tie.decreases-loop
-decreases-loop ys₀ zs₀ y z rows row width k₀ ys zs k = width - k
+abbrev decreases-loop-k : tie.decreases-loop-k
+decreases-loop-k ys₀ zs₀ y z rows row width k₀ ys zs k = width - k
 
-add-if1 : tie.Need-overflow-add-if1 invariant-loop decreases-loop
+add-if1 : tie.Need-overflow_add-y invariant-loop-k decreases-loop-k
 add-if1 c = search rules
 
-returns : tie.Need-returns invariant-loop decreases-loop
+returns : tie.Need-returns-then-y-z-eq0 invariant-loop-k decreases-loop-k
 returns c =
-    let a = c.before.before.args in (
+    let a = c.args in (
       row_weightless a.y a.rows.now a.row a.ys.now a.width (omega arith),
       row_weightless a.z a.rows.now a.row a.zs.now a.width (omega arith),
     )
 
-loop-holds : tie.Need-loop-init invariant-loop decreases-loop
+loop-holds : tie.Need-loop-k-init invariant-loop-k decreases-loop-k
 loop-holds c =
-    let a = c.before.before.args in
+    let a = c.args in
     (omega arith, row_none _ a.ys.now, row_none _ a.zs.now)
 
-mul-add-lifted : tie.Need-overflow-mul-add-lifted invariant-loop decreases-loop
+mul-add-lifted : tie.Need-offset_bounds-ys-k invariant-loop-k decreases-loop-k
 mul-add-lifted c = search rules
 
-slice-copy-out-add-lifted : tie.Need-slice-copy-out-add-lifted invariant-loop decreases-loop
+slice-copy-out-add-lifted : tie.Need-slice_copy_out-add_lifted invariant-loop-k decreases-loop-k
 slice-copy-out-add-lifted c = search rules
 
-mul-add-lifted-2 : tie.Need-overflow-mul-add-lifted-2 invariant-loop decreases-loop
+mul-add-lifted-2 : tie.Need-overflow_mul-k invariant-loop-k decreases-loop-k
 mul-add-lifted-2 c = search rules
 
-add-add-lifted : tie.Need-overflow-add-add-lifted invariant-loop decreases-loop
+add-add-lifted : tie.Need-overflow_add-row invariant-loop-k decreases-loop-k
 add-add-lifted c = search rules
 
-add-lifted-requires : tie.Need-add-lifted-requires invariant-loop decreases-loop
+add-lifted-requires : tie.Need-add_lifted-requires invariant-loop-k decreases-loop-k
 add-lifted-requires c κs =
     let turn = c.before.before in
     let start = turn.before.before.before in
     let a = start.args in
-    let grows = next_grows _ a.ys.now turn.loop.k a.width turn.loop.ys turn.loop.invariant.1 start.requires.2 c.before.loop-test.true in
-    (passed_grows (get_or turn.loop.ys turn.loop.k (pos 0)) grows, start.requires.4, omega arith)
+    let grows = next_grows _ a.ys.now turn.loop-k.k a.width turn.loop-k.ys turn.loop-k.invariant.1 start.requires.2 c.loop-k-test.true in
+    (passed_grows (get_or turn.loop-k.ys turn.loop-k.k (pos 0)) grows, start.requires.4, omega arith)
 
-mul-zs : tie.Need-overflow-mul-zs invariant-loop decreases-loop
+mul-zs : tie.Need-offset_bounds-ys-k-in-loop-k invariant-loop-k decreases-loop-k
 mul-zs c = search rules
 
-slice-set-from-zs : tie.Need-slice-set-from-zs invariant-loop decreases-loop
+slice-set-from-zs : tie.Need-bounds-ys-k invariant-loop-k decreases-loop-k
 slice-set-from-zs c = search rules
 
-mul-add-lifted-3 : tie.Need-overflow-mul-add-lifted-3 invariant-loop decreases-loop
+mul-add-lifted-3 : tie.Need-offset_bounds-zs-k invariant-loop-k decreases-loop-k
 mul-add-lifted-3 c = search rules
 
-slice-copy-out-add-lifted-2 : tie.Need-slice-copy-out-add-lifted-2 invariant-loop decreases-loop
+slice-copy-out-add-lifted-2 : tie.Need-slice_copy_out-add_lifted-in-loop-k invariant-loop-k decreases-loop-k
 slice-copy-out-add-lifted-2 c = search rules
 
-mul-add-lifted-4 : tie.Need-overflow-mul-add-lifted-4 invariant-loop decreases-loop
+mul-add-lifted-4 : tie.Need-overflow_mul-k-in-loop-k invariant-loop-k decreases-loop-k
 mul-add-lifted-4 c = search rules
 
-add-add-lifted-2 : tie.Need-overflow-add-add-lifted-2 invariant-loop decreases-loop
+add-add-lifted-2 : tie.Need-overflow_add-row-in-loop-k invariant-loop-k decreases-loop-k
 add-add-lifted-2 c = search rules
 
-add-lifted-requires-2 : tie.Need-add-lifted-requires-2 invariant-loop decreases-loop
+add-lifted-requires-2 : tie.Need-add_lifted-requires-in-loop-k invariant-loop-k decreases-loop-k
 add-lifted-requires-2 c κs =
     let turn = c.before.before.before.before in
     let start = turn.before.before.before in
     let a = start.args in
-    let grows = next_grows _ a.zs.now turn.loop.k a.width turn.loop.zs turn.loop.invariant.2 start.requires.3 c.before.before.before.loop-test.true in
-    (passed_grows (get_or turn.loop.zs turn.loop.k (pos 0)) grows, start.requires.5, omega arith)
+    let grows = next_grows _ a.zs.now turn.loop-k.k a.width turn.loop-k.zs turn.loop-k.invariant.2 start.requires.3 c.loop-k-test.true in
+    (passed_grows (get_or turn.loop-k.zs turn.loop-k.k (pos 0)) grows, start.requires.5, omega arith)
 
-mul-t13 : tie.Need-overflow-mul-t13 invariant-loop decreases-loop
+mul-t13 : tie.Need-offset_bounds-zs-k-in-loop-k invariant-loop-k decreases-loop-k
 mul-t13 c = search rules
 
-slice-set-from-zs-2 : tie.Need-slice-set-from-zs-2 invariant-loop decreases-loop
+slice-set-from-zs-2 : tie.Need-bounds-zs-k invariant-loop-k decreases-loop-k
 slice-set-from-zs-2 c = search rules
 
-add-k : tie.Need-overflow-add-k invariant-loop decreases-loop
+add-k : tie.Need-overflow_step-k invariant-loop-k decreases-loop-k
 add-k c = search rules
 
-loop-less : tie.Need-loop-smaller invariant-loop decreases-loop
+loop-less : tie.Need-loop-k-smaller invariant-loop-k decreases-loop-k
 loop-less c = search rules
 
-loop-again : tie.Need-loop-preserved invariant-loop decreases-loop
+loop-again : tie.Need-loop-k-preserved invariant-loop-k decreases-loop-k
 loop-again c =
-    let second = c.add-lifted2 in
-    let first = c.before.before.add-lifted in
+    let second = c.add_lifted-in-loop-k in
+    let first = c.add_lifted in
     let inside = c.before.before.before.before in
     let turn = inside.before in
     let start = turn.before.before.before in
     let a = start.args in
-    let k = turn.loop.k in
-    let below = inside.loop-test.true in
-    let ys-grow = next_grows _ a.ys.now k a.width turn.loop.ys turn.loop.invariant.1 start.requires.2 below in
-    let zs-grow = next_grows _ a.zs.now k a.width turn.loop.zs turn.loop.invariant.2 start.requires.3 below in (
+    let k = turn.loop-k.k in
+    let below = inside.loop-k-test.true in
+    let ys-grow = next_grows _ a.ys.now k a.width turn.loop-k.ys turn.loop-k.invariant.1 start.requires.2 below in
+    let zs-grow = next_grows _ a.zs.now k a.width turn.loop-k.zs turn.loop-k.invariant.2 start.requires.3 below in (
       omega arith,
-      rw (to_z-of_z (sfits_of first.type-inv))
-          (row_more _ a.ys.now k turn.loop.ys first.result turn.loop.invariant.1 (omega arith)
-          (rw (grown (get_or turn.loop.ys k (pos 0)) ys-grow) at first.ensures)),
-      rw (to_z-of_z (sfits_of second.type-inv))
-          (row_more _ a.zs.now k turn.loop.zs second.result turn.loop.invariant.2 (omega arith)
-          (rw (grown (get_or turn.loop.zs k (pos 0)) zs-grow) at second.ensures)),
+      rw (to_z-of_z (sfits_of first.type_inv))
+          (row_more _ a.ys.now k turn.loop-k.ys first.result turn.loop-k.invariant.1 (omega arith)
+          (rw (grown (get_or turn.loop-k.ys k (pos 0)) ys-grow) at first.ensures)),
+      rw (to_z-of_z (sfits_of second.type_inv))
+          (row_more _ a.zs.now k turn.loop-k.zs second.result turn.loop-k.invariant.2 (omega arith)
+          (rw (grown (get_or turn.loop-k.zs k (pos 0)) zs-grow) at second.ensures)),
     )
 
-same_length : tie.Need-same-length invariant-loop decreases-loop
-same_length c = c.before.loop.invariant.1.long
+same_length : tie.Need-shape_of-ys invariant-loop-k decreases-loop-k
+same_length c = c.loop-k.invariant.1.long
 
-same-length-2 : tie.Need-same-length-2 invariant-loop decreases-loop
-same-length-2 c = c.before.loop.invariant.2.long
+same-length-2 : tie.Need-shape_of-zs invariant-loop-k decreases-loop-k
+same-length-2 c = c.loop-k.invariant.2.long
 
-returns-2 : tie.Need-returns-2 invariant-loop decreases-loop
+returns-2 : tie.Need-returns invariant-loop-k decreases-loop-k
 returns-2 c =
-    let end : c.before.loop.k ≡ c.before.before.before.before.args.width = omega arith in
-    (rw end at c.before.loop.invariant.1, rw end at c.before.loop.invariant.2)
+    let end : c.loop-k.k ≡ c.args.width = omega arith in
+    (rw end at c.loop-k.invariant.1, rw end at c.loop-k.invariant.2)
 
-pub add-row-spec : {M : Type 1} → statement M
-add-row-spec =
+pub add_row_spec : {M : Type 1} → statement M
+add_row_spec =
     tie.close
     (tie.spec
-    invariant-loop
-    decreases-loop
+    invariant-loop-k
+    decreases-loop-k
     add-if1
     returns
     loop-holds

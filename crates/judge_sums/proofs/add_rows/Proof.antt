@@ -10,54 +10,54 @@ use borrow.Author.Rules.{rules}
 use Rattle.judge_sums.proofs.add_rows.Statement.{statement}
 use Rattle.judge_sums.proofs.add_rows.Tie as tie
 
-abbrev invariant-loop : tie.invariant-loop
-invariant-loop ys₀ zs₀ rows start n multipliers y z count stride right beside-y₀ beside-z₀ at₀ i₀ ys zs beside-y beside-z at i =
+abbrev invariant-loop-i : tie.invariant-loop-i
+invariant-loop-i ys₀ zs₀ rows start n multipliers y z count stride right beside-y₀ beside-z₀ at₀ i₀ ys zs beside-y beside-z at i =
     (i ≤ count) × (at ≡ row_place start n i) × RestStays (2 * n) ys₀ ys × RestStays (2 * n) zs₀ zs
     × SumsOf multipliers y rows start n i ys × SumsOf multipliers z rows start n i zs
     × BesideOf multipliers y rows start n i beside-y.lift beside-y.right × BesideOf multipliers z rows start n i beside-z.lift beside-z.right
 
-abbrev decreases-loop : tie.decreases-loop
-decreases-loop ys₀ zs₀ rows start n multipliers y z count stride right beside-y₀ beside-z₀ at₀ i₀ ys zs beside-y beside-z at i = count - i
+abbrev decreases-loop-i : tie.decreases-loop-i
+decreases-loop-i ys₀ zs₀ rows start n multipliers y z count stride right beside-y₀ beside-z₀ at₀ i₀ ys zs beside-y beside-z at i = count - i
 
 -- where the call started
-abbrev start : tie.At-loop invariant-loop decreases-loop → tie.Start invariant-loop decreases-loop
+abbrev start : tie.At-loop-i invariant-loop-i decreases-loop-i → tie.Start invariant-loop-i decreases-loop-i
 start c = c.before.before.before.before.before
 
 -- the turn that a row is added in
-abbrev turned : tie.After-add-row invariant-loop decreases-loop → tie.In-loop invariant-loop decreases-loop
+abbrev turned : tie.After-add_row invariant-loop-i decreases-loop-i → tie.In-loop-i invariant-loop-i decreases-loop-i
 turned c = c.before.before.before.before.before
 
 -- the row of this turn lies within the bytes
-inside : (c : tie.In-loop invariant-loop decreases-loop)
-    → let args = (start c.before).args in row_place args.start args.n (c.before.loop.i + 1) ≤ length args.rows.now
+inside : (c : tie.In-loop-i invariant-loop-i decreases-loop-i)
+    → let args = (start c.before).args in row_place args.start args.n (c.loop-i.i + 1) ≤ length args.rows.now
 inside c =
     let s = start c.before in
-    row_inside s.args.rows.now s.args.start s.args.n s.args.count c.before.loop.i s.pre.4 c.loop-test.true
+    row_inside s.args.rows.now s.args.start s.args.n s.args.count c.loop-i.i s.requires.4 c.loop-i-test.true
 
 -- and the bytes are few enough for its places to be numbers of 64 bits
-place-fits : (c : tie.In-loop invariant-loop decreases-loop) → c.before.loop.at + (4 * (start c.before).args.n + 4) < 2 ^ 64
-place-fits c = omega (arith, inside c, c.before.loop.invariant.1)
+place-fits : (c : tie.In-loop-i invariant-loop-i decreases-loop-i) → c.loop-i.at + (4 * (start c.before).args.n + 4) < 2 ^ 64
+place-fits c = omega (arith, inside c, c.loop-i.invariant.1)
 
 -- few rows came before it
-few_rows : (c : tie.In-loop invariant-loop decreases-loop) → c.before.loop.i < 16384
-few_rows c = omega (arith, c.loop-test.true, (start c.before).pre.4.few)
+few_rows : (c : tie.In-loop-i invariant-loop-i decreases-loop-i) → c.loop-i.i < 16384
+few_rows c = omega (arith, c.loop-i-test.true, (start c.before).requires.4.few)
 
-mul-stride : tie.Need-overflow-mul-stride invariant-loop decreases-loop
+mul-stride : tie.Need-overflow_mul-stride invariant-loop-i decreases-loop-i
 mul-stride c = search rules
 
-add-stride : tie.Need-overflow-add-stride invariant-loop decreases-loop
+add-stride : tie.Need-overflow_add-stride invariant-loop-i decreases-loop-i
 add-stride c = search rules
 
-mul_right : tie.Need-overflow-mul-right invariant-loop decreases-loop
+mul_right : tie.Need-overflow_mul-right invariant-loop-i decreases-loop-i
 mul_right c = search rules
 
-new-requires : tie.Need-new-requires invariant-loop decreases-loop
+new-requires : tie.Need-new-beside_y-requires invariant-loop-i decreases-loop-i
 new-requires c κs = search rules
 
-new-requires-2 : tie.Need-new-requires-2 invariant-loop decreases-loop
+new-requires-2 : tie.Need-new-beside_z-requires invariant-loop-i decreases-loop-i
 new-requires-2 c κs = search rules
 
-loop-holds : tie.Need-loop-init invariant-loop decreases-loop
+loop-holds : tie.Need-loop-i-init invariant-loop-i decreases-loop-i
 loop-holds c =
     let start = c.before.before.before.before in
     let a = start.args in (
@@ -67,32 +67,32 @@ loop-holds c =
       rest_none (2 * a.n) a.zs.now,
       sums_none a.multipliers.now a.y a.rows.now a.start a.n a.ys.now start.requires.2,
       sums_none a.multipliers.now a.z a.rows.now a.start a.n a.zs.now start.requires.3,
-      beside_none a.multipliers.now a.y a.rows.now a.start a.n c.before.new.ensures,
-      beside_none a.multipliers.now a.z a.rows.now a.start a.n c.new2.ensures,
+      beside_none a.multipliers.now a.y a.rows.now a.start a.n c.new-beside_y.ensures,
+      beside_none a.multipliers.now a.z a.rows.now a.start a.n c.new-beside_z.ensures,
     )
 
-mul-u16-at : tie.Need-overflow-mul-u16-at invariant-loop decreases-loop
+mul-u16-at : tie.Need-overflow_mul-i invariant-loop-i decreases-loop-i
 mul-u16-at c = search rules
 
-add-u16-at : tie.Need-overflow-add-u16-at invariant-loop decreases-loop
+add-u16-at : tie.Need-overflow_add-y invariant-loop-i decreases-loop-i
 add-u16-at c = search rules
 
-u16-at-requires : tie.Need-u16-at-requires invariant-loop decreases-loop
+u16-at-requires : tie.Need-u16_at-under_y-requires invariant-loop-i decreases-loop-i
 u16-at-requires c κs = search rules
 
-mul-u16-at-2 : tie.Need-overflow-mul-u16-at-2 invariant-loop decreases-loop
+mul-u16-at-2 : tie.Need-overflow_mul-i-in-loop-i invariant-loop-i decreases-loop-i
 mul-u16-at-2 c = search rules
 
-add-u16-at-2 : tie.Need-overflow-add-u16-at-2 invariant-loop decreases-loop
+add-u16-at-2 : tie.Need-overflow_add-z invariant-loop-i decreases-loop-i
 add-u16-at-2 c = search rules
 
-u16-at-requires-2 : tie.Need-u16-at-requires-2 invariant-loop decreases-loop
+u16-at-requires-2 : tie.Need-u16_at-under_z-requires invariant-loop-i decreases-loop-i
 u16-at-requires-2 c κs = search rules
 
-mul-add-row : tie.Need-overflow-mul-add-row invariant-loop decreases-loop
+mul-add-row : tie.Need-overflow_mul-n invariant-loop-i decreases-loop-i
 mul-add-row c = search rules
 
-add-row-requires : tie.Need-add-row-requires invariant-loop decreases-loop
+add-row-requires : tie.Need-add_row-requires invariant-loop-i decreases-loop-i
 add-row-requires c κs =
     let second = c.before.before in
     let first = second.before in
@@ -101,87 +101,87 @@ add-row-requires c κs =
     let a = s.args in
     let row = inside first.before in
     let few = few_rows first.before in (
-      omega (arith, turn.loop.invariant.2.long, s.pre.0),
-      omega (arith, turn.loop.invariant.3.long, s.pre.1),
-      sums_grow a.multipliers.now a.y a.rows.now a.start a.n turn.loop.i turn.loop.ys turn.loop.invariant.4 few,
-      sums_grow a.multipliers.now a.z a.rows.now a.start a.n turn.loop.i turn.loop.zs turn.loop.invariant.5 few,
-      first.u16-at.ensures.1,
-      second.u16-at2.ensures.1,
-      omega (arith, row, turn.loop.invariant.1),
+      omega (arith, turn.loop-i.invariant.2.long, s.requires.0),
+      omega (arith, turn.loop-i.invariant.3.long, s.requires.1),
+      sums_grow a.multipliers.now a.y a.rows.now a.start a.n turn.loop-i.i turn.loop-i.ys turn.loop-i.invariant.4 few,
+      sums_grow a.multipliers.now a.z a.rows.now a.start a.n turn.loop-i.i turn.loop-i.zs turn.loop-i.invariant.5 few,
+      first.u16_at-under_y.ensures.1,
+      second.u16_at-under_z.ensures.1,
+      omega (arith, row, turn.loop-i.invariant.1),
     )
 
-add-visit : tie.Need-overflow-add-visit invariant-loop decreases-loop
+add-visit : tie.Need-overflow_add-at invariant-loop-i decreases-loop-i
 add-visit c = let turn = turned c.before.before in omega (arith, place-fits turn)
 
-visit-requires : tie.Need-visit-requires invariant-loop decreases-loop
+visit-requires : tie.Need-visit-beside_y-requires invariant-loop-i decreases-loop-i
 visit-requires c κs =
     let turn = turned c.before.before in
     let a = (start turn.before).args in
     let row = inside turn in
-    let grow = beside_grows a.multipliers.now a.y a.rows.now a.start a.n turn.before.loop.i (few_rows turn) turn.before.loop.inv.6 in
-    (grow.0, grow.1, c.before.before.before.before.before.before.u16-at.ensures.1, omega (arith, row, turn.before.loop.inv.1))
+    let grow = beside_grows a.multipliers.now a.y a.rows.now a.start a.n turn.loop-i.i (few_rows turn) turn.loop-i.invariant.6 in
+    (grow.0, grow.1, c.u16_at-under_y.ensures.1, omega (arith, row, turn.loop-i.invariant.1))
 
-add-visit-2 : tie.Need-overflow-add-visit-2 invariant-loop decreases-loop
+add-visit-2 : tie.Need-overflow_add-at-in-loop-i invariant-loop-i decreases-loop-i
 add-visit-2 c = let turn = turned c.before.before.before in omega (arith, place-fits turn)
 
-visit-requires-2 : tie.Need-visit-requires-2 invariant-loop decreases-loop
+visit-requires-2 : tie.Need-visit-beside_z-requires invariant-loop-i decreases-loop-i
 visit-requires-2 c κs =
     let turn = turned c.before.before.before in
     let a = (start turn.before).args in
     let row = inside turn in
-    let grow = beside_grows a.multipliers.now a.z a.rows.now a.start a.n turn.before.loop.i (few_rows turn) turn.before.loop.inv.7 in
-    (grow.0, grow.1, c.before.before.before.before.before.before.u16-at2.ensures.1, omega (arith, row, turn.before.loop.inv.1))
+    let grow = beside_grows a.multipliers.now a.z a.rows.now a.start a.n turn.loop-i.i (few_rows turn) turn.loop-i.invariant.7 in
+    (grow.0, grow.1, c.u16_at-under_z.ensures.1, omega (arith, row, turn.loop-i.invariant.1))
 
-add_at : tie.Need-overflow-add-at invariant-loop decreases-loop
+add_at : tie.Need-overflow_add-at-in-loop-i-2 invariant-loop-i decreases-loop-i
 add_at c = let turn = turned c.before.before.before.before in omega (arith, place-fits turn)
 
-add-i : tie.Need-overflow-add-i invariant-loop decreases-loop
+add-i : tie.Need-overflow_step-i invariant-loop-i decreases-loop-i
 add-i c = let turn = turned c.before.before.before.before in omega (arith, few_rows turn)
 
-loop-less : tie.Need-loop-smaller invariant-loop decreases-loop
+loop-less : tie.Need-loop-i-smaller invariant-loop-i decreases-loop-i
 loop-less c = search rules
 
-loop-again : tie.Need-loop-preserved invariant-loop decreases-loop
+loop-again : tie.Need-loop-i-preserved invariant-loop-i decreases-loop-i
 loop-again c =
     let added = c.before.before.before.before in
     let called = added.add_row in
     let read = added.before.before.before in
-    let second = read.u16-at2 in
-    let first = read.before.u16-at in
+    let second = read.u16_at-under_z in
+    let first = read.u16_at-under_y in
     let turn = (turned added).before in
     let a = (start turn).args in (
       omega arith,
       omega arith,
-      rest_more turn.loop.inv.2 called.ensures.0,
-      rest_more turn.loop.inv.3 called.ensures.1,
-      sums_more a.multipliers.now a.y a.rows.now a.start a.n turn.loop.i first.result turn.loop.at turn.loop.ys called.new.0
-          turn.loop.inv.4 first.ensures.0 first.ensures.1 turn.loop.inv.1 called.ensures.0,
-      sums_more a.multipliers.now a.z a.rows.now a.start a.n turn.loop.i second.result turn.loop.at turn.loop.zs called.new.1.0
-          turn.loop.inv.5 second.ensures.0 second.ensures.1 turn.loop.inv.1 called.ensures.1,
-      beside_more a.multipliers.now a.y a.rows.now a.start a.n turn.loop.i first.result turn.loop.at
-          turn.loop.inv.6 first.ensures.0 turn.loop.inv.1 c.before.visit.ensures,
-      beside_more a.multipliers.now a.z a.rows.now a.start a.n turn.loop.i second.result turn.loop.at
-          turn.loop.inv.7 second.ensures.0 turn.loop.inv.1 c.visit2.ensures,
+      rest_more turn.loop-i.invariant.2 called.ensures.0,
+      rest_more turn.loop-i.invariant.3 called.ensures.1,
+      sums_more a.multipliers.now a.y a.rows.now a.start a.n turn.loop-i.i first.result turn.loop-i.at turn.loop-i.ys called.new.ys
+          turn.loop-i.invariant.4 first.ensures.0 first.ensures.1 turn.loop-i.invariant.1 called.ensures.0,
+      sums_more a.multipliers.now a.z a.rows.now a.start a.n turn.loop-i.i second.result turn.loop-i.at turn.loop-i.zs called.new.zs
+          turn.loop-i.invariant.5 second.ensures.0 second.ensures.1 turn.loop-i.invariant.1 called.ensures.1,
+      beside_more a.multipliers.now a.y a.rows.now a.start a.n turn.loop-i.i first.result turn.loop-i.at
+          turn.loop-i.invariant.6 first.ensures.0 turn.loop-i.invariant.1 c.visit-beside_y.ensures,
+      beside_more a.multipliers.now a.z a.rows.now a.start a.n turn.loop-i.i second.result turn.loop-i.at
+          turn.loop-i.invariant.7 second.ensures.0 turn.loop-i.invariant.1 c.visit-beside_z.ensures,
     )
 
-same_length : tie.Need-same-length invariant-loop decreases-loop
-same_length c = c.before.loop.invariant.2.long
+same_length : tie.Need-shape_of-ys invariant-loop-i decreases-loop-i
+same_length c = c.loop-i.invariant.2.long
 
-same-length-2 : tie.Need-same-length-2 invariant-loop decreases-loop
-same-length-2 c = c.before.loop.invariant.3.long
+same-length-2 : tie.Need-shape_of-zs invariant-loop-i decreases-loop-i
+same-length-2 c = c.loop-i.invariant.3.long
 
-returns : tie.Need-returns invariant-loop decreases-loop
+returns : tie.Need-returns invariant-loop-i decreases-loop-i
 returns c =
-    let l = c.before.loop in
+    let l = c.loop-i in
     let end : l.i ≡ (start c.before).args.count = omega arith in
     (rw end at l.invariant.4, rw end at l.invariant.5, l.invariant.2, l.invariant.3, rw end at l.invariant.6, rw end at l.invariant.7)
 
-pub add-rows-spec : {M : Type 1} → statement M
-add-rows-spec =
+pub add_rows_spec : {M : Type 1} → statement M
+add_rows_spec =
     tie.close
     (tie.spec
-    invariant-loop
-    decreases-loop
+    invariant-loop-i
+    decreases-loop-i
     mul-stride
     add-stride
     mul_right

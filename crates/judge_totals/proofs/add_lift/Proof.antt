@@ -7,7 +7,7 @@ use borrow.Author.Rules.{rules}
 use Rattle.judge_totals.proofs.add_lift.Statement.{statement}
 use Rattle.judge_totals.proofs.add_lift.Tie as tie
 
-cast-plus : tie.Need-overflow-cast-plus
+cast-plus : tie.Need-overflow_cast-multiplier
 cast-plus c = search rules
 
 plus-requires : tie.Need-plus-requires
@@ -20,5 +20,5 @@ returns c =
     let start = c.before in
     added (pos start.args.multiplier) (pos 32768) 65535 32768 (omega arith) (omega arith) (omega arith) {s = start.args.total.sum} {r = c.plus.result.sum} refl refl c.plus.ensures
 
-pub add-lift-spec : {M : Type 1} → statement M
-add-lift-spec = tie.close (tie.spec cast-plus plus-requires returns)
+pub add_lift_spec : {M : Type 1} → statement M
+add_lift_spec = tie.close (tie.spec cast-plus plus-requires returns)

@@ -11,11 +11,11 @@ use Rattle.judge_weighed.proofs.times_entry.Tie as tie
 small : (c : tie.Start) → nat_abs (c.args.factor *ℤ c.args.entry) ≤ 65535 * 32768
 small c = abs_product c.args.factor c.args.entry c.requires.0 c.requires.1
 
-mul-result : tie.Need-overflow-mul-result
+mul-result : tie.Need-overflow_mul-result
 mul-result c = rw (to_z-of_z c.ranges.factor, to_z-of_z c.ranges.entry) (fits_abs (omega (arith, small c)))
 
 returns : tie.Need-returns
 returns c = rw (to_z-of_z c.ranges.factor, to_z-of_z c.ranges.entry) (back {z = c.args.factor *ℤ c.args.entry} (omega (arith, small c)))
 
-pub times-entry-spec : {M : Type 1} → statement M
-times-entry-spec = tie.close (tie.spec mul-result returns)
+pub times_entry_spec : {M : Type 1} → statement M
+times_entry_spec = tie.close (tie.spec mul-result returns)

@@ -8,13 +8,13 @@ use Rattle.record_check.proofs.ends.Tie as tie
 refused-requires : tie.Need-refused-requires
 refused-requires c κs = search rules
 
-returns : tie.Need-returns
+returns : tie.Need-returns-then-at-end
 unfolding ended
-returns c = rw (lt-ltb _ _ c.before.if1.true) c.refused.ensures
+returns c = rw (lt-ltb _ _ c.if-at-end.true) c.refused.ensures
 
-returns-2 : tie.Need-returns-2
+returns-2 : tie.Need-returns-else-at-end
 unfolding ended
-returns-2 c = rw (le-ltb _ _ c.if1.false)
+returns-2 c = rw (le-ltb _ _ c.if-at-end.false)
 
-pub ends-spec : {M : Type 1} → statement M
-ends-spec = tie.close (tie.spec refused-requires returns returns-2)
+pub ends_spec : {M : Type 1} → statement M
+ends_spec = tie.close (tie.spec refused-requires returns returns-2)

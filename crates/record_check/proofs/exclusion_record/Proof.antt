@@ -14,42 +14,42 @@ use Rattle.record_check.proofs.exclusion_record.Tie as tie
 small : (s : tie.Start) → s.args.n ≤ 16
 small s = (arguments_most _ _ s.requires.arguments).0
 
-mul-if1 : tie.Need-overflow-mul-if1
+mul-if1 : tie.Need-overflow_mul-n
 mul-if1 c = omega (arith, small c.before)
 
-add-if1 : tie.Need-overflow-add-if1
+add-if1 : tie.Need-overflow_add-n
 add-if1 c = omega (arith, small c.before)
 
 refused-requires : tie.Need-refused-requires
 refused-requires c κs = search rules
 
-returns : tie.Need-returns
+returns : tie.Need-returns-then-end-n
 unfolding kind_of is_lasso counts length_of
 returns c wanted known =
     let s = c.before.before.before in
     let a = s.args in
     c.refused.ensures
-    ∙ plain_length wanted a.bytes.now a.n a.m s.requires.frame exclusion (ap kind_of s.requires.numbered) known s.requires.arguments refl refl (λ e. c.before.if1.true (omega (arith, e)))
+    ∙ plain_length wanted a.bytes.now a.n a.m s.requires.frame exclusion (ap kind_of s.requires.numbered) known s.requires.arguments refl refl (λ e. c.if-end-n.true (omega (arith, e)))
 
-exclusion-fault-requires : tie.Need-exclusion-fault-requires
+exclusion-fault-requires : tie.Need-exclusion_fault-requires
 exclusion-fault-requires c κs = search rules
 
 ends-requires : tie.Need-ends-requires
 ends-requires c κs = search rules
 
-returns-2 : tie.Need-returns-2
+returns-2 : tie.Need-returns
 unfolding kind_of is_lasso counts length_of
 returns-2 c wanted known =
     let s = c.before.before.before.before in
     let a = s.args in
-    let at = c.before.exclusion-fault in
+    let at = c.exclusion_fault in
     let told = at.ensures ∙ ap (λ fs. fault fs a.bytes.now 6) (sym (exclusion_is (record { n = a.n; m = a.m; ms = 0 }))) in
     c.ends.ensures
     ∙ rw s.requires.numbered at
-    (plain_values wanted a.bytes.now a.n a.m s.requires.frame exclusion (ap kind_of s.requires.numbered) known s.requires.arguments refl refl (omega (arith, c.before.before.if1.false)) at.result told)
+    (plain_values wanted a.bytes.now a.n a.m s.requires.frame exclusion (ap kind_of s.requires.numbered) known s.requires.arguments refl refl (omega (arith, c.if-end-n.false)) at.result told)
 
-pub exclusion-record-spec : {M : Type 1} → statement M
-exclusion-record-spec =
+pub exclusion_record_spec : {M : Type 1} → statement M
+exclusion_record_spec =
     tie.close
     (tie.spec
     mul-if1

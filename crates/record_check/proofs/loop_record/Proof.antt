@@ -15,24 +15,24 @@ use Rattle.record_check.proofs.loop_record.Tie as tie
 
 -- ---- places: where n has been read, where m has been read, and where both are in range
 
-abbrev start : tie.After-u16-at → tie.Start
+abbrev start : tie.After-u16_at-n → tie.Start
 start n = n.before.before.before
 
-abbrev n-of : tie.After-u16-at2 → tie.After-u16-at
+abbrev n-of : tie.After-u16_at-m → tie.After-u16_at-n
 n-of m = m.before.before.before
 
-abbrev m-of : tie.Else3 → tie.After-u16-at2
+abbrev m-of : tie.Else-not-rows_fit → tie.After-u16_at-m
 m-of c = c.before.before
 
-n_fits : (c : tie.Else2) → within variables (pos c.before.before.u16-at.result) ≡ true
-n_fits c = sym c.before.variables-fit.ensures ∙ not-false _ c.if2.false
+n_fits : (c : tie.Else-not-variables_fit) → within variables (pos c.u16_at-n.result) ≡ true
+n_fits c = sym c.variables_fit.ensures ∙ c.if-not-variables_fit.false
 
-m_fits : (c : tie.Else3) → within rows (pos (m-of c).u16-at2.result) ≡ true
-m_fits c = sym c.before.rows_fit.ensures ∙ not-false _ c.if3.false
+m_fits : (c : tie.Else-not-rows_fit) → within rows (pos (m-of c).u16_at-m.result) ≡ true
+m_fits c = sym c.rows_fit.ensures ∙ c.if-not-rows_fit.false
 
-small : (c : tie.Else3) → (m-of c).u16-at2.result * (4 * (n-of (m-of c)).u16-at.result + 4) ≤ 64 * 68
+small : (c : tie.Else-not-rows_fit) → (m-of c).u16_at-m.result * (4 * (n-of (m-of c)).u16_at-n.result + 4) ≤ 64 * 68
 small c =
-    let wide : 4 * (n-of (m-of c)).u16-at.result + 4 ≤ 68 = omega (arith, variables_most _ (n_fits (m-of c).before)) in
+    let wide : 4 * (n-of (m-of c)).u16_at-n.result + 4 ≤ 68 = omega (arith, variables_most _ (n_fits (m-of c).before)) in
     mul-le-mul (rows_most _ (m_fits c)) wide
 
 -- ---- the needs
@@ -40,89 +40,89 @@ small c =
 refused-requires : tie.Need-refused-requires
 refused-requires c κs = search rules
 
-returns : tie.Need-returns
+returns : tie.Need-returns-then-end-lt10
 returns c =
     let s = c.before.before.before in
-    c.refused.ensures ∙ loop_short s.args.bytes.now s.requires.0 s.requires.1 c.before.if1.true
+    c.refused.ensures ∙ loop_short s.args.bytes.now s.requires.0 s.requires.1 c.if-end-lt10.true
 
-u16-at-requires : tie.Need-u16-at-requires
+u16-at-requires : tie.Need-u16_at-n-requires
 u16-at-requires c κs = search rules
 
-variables-fit-requires : tie.Need-variables-fit-requires
+variables-fit-requires : tie.Need-variables_fit-requires
 variables-fit-requires c κs = search rules
 
-refused-requires-2 : tie.Need-refused-requires-2
+refused-requires-2 : tie.Need-refused-requires-then-not-variables_fit
 refused-requires-2 c κs = search rules
 
-returns-2 : tie.Need-returns-2
+returns-2 : tie.Need-returns-then-not-variables_fit
 returns-2 c =
     let n = c.before.before.before in
     let s = start n in
-    let out = sym c.before.before.variables-fit.ensures ∙ not-true _ c.before.if2.true in
-    c.refused2.ensures ∙ loop_n s.args.bytes.now s.pre.0 s.pre.1 n.before.if1.false n.u16-at.result n.u16-at.ensures.0 out
+    let out = sym c.variables_fit.ensures ∙ c.if-not-variables_fit.true in
+    c.refused-then-not-variables_fit.ensures ∙ loop_n s.args.bytes.now s.requires.0 s.requires.1 n.if-end-lt10.false n.u16_at-n.result n.u16_at-n.ensures.0 out
 
-u16-at-requires-2 : tie.Need-u16-at-requires-2
+u16-at-requires-2 : tie.Need-u16_at-m-requires
 u16-at-requires-2 c κs = search rules
 
-rows-fit-requires : tie.Need-rows-fit-requires
+rows-fit-requires : tie.Need-rows_fit-requires
 rows-fit-requires c κs = search rules
 
-refused-requires-3 : tie.Need-refused-requires-3
+refused-requires-3 : tie.Need-refused-requires-then-not-rows_fit
 refused-requires-3 c κs = search rules
 
-returns-3 : tie.Need-returns-3
+returns-3 : tie.Need-returns-then-not-rows_fit
 returns-3 c =
     let m = c.before.before.before in
     let n = n-of m in
     let s = start n in
-    let out = sym c.before.before.rows_fit.ensures ∙ not-true _ c.before.if3.true in
-    c.refused3.ensures
-    ∙ loop_m s.args.bytes.now s.pre.0 s.pre.1 n.before.if1.left n.u16-at.result n.u16-at.ensures.0 (n_fits m.before) m.u16-at2.result m.u16-at2.ensures.0 out
+    let out = sym c.rows_fit.ensures ∙ c.if-not-rows_fit.true in
+    c.refused-then-not-rows_fit.ensures
+    ∙ loop_m s.args.bytes.now s.requires.0 s.requires.1 n.if-end-lt10.left n.u16_at-n.result n.u16_at-n.ensures.0 (n_fits m.before) m.u16_at-m.result m.u16_at-m.ensures.0 out
 
-mul-if4 : tie.Need-overflow-mul-if4
+mul-if4 : tie.Need-overflow_mul-n
 mul-if4 c = search rules
 
-add-if4 : tie.Need-overflow-add-if4
+add-if4 : tie.Need-overflow_add-n
 add-if4 c = search rules
 
-mul-if4-2 : tie.Need-overflow-mul-if4-2
+mul-if4-2 : tie.Need-overflow_mul-m
 mul-if4-2 c = omega (arith, small c)
 
-add-if4-2 : tie.Need-overflow-add-if4-2
+add-if4-2 : tie.Need-overflow_add-m
 add-if4-2 c = omega (arith, small c)
 
-refused-requires-4 : tie.Need-refused-requires-4
+refused-requires-4 : tie.Need-refused-requires-then-end-m
 refused-requires-4 c κs = search rules
 
-returns-4 : tie.Need-returns-4
+returns-4 : tie.Need-returns-then-end-m
 returns-4 c =
     let fit = c.before.before in
     let m = m-of fit in
     let n = n-of m in
     let s = start n in
-    c.refused4.ensures
-    ∙ loop_length s.args.bytes.now s.pre.0 s.pre.1 n.before.if1.left n.u16-at.result n.u16-at.ensures.0 (n_fits m.before) m.u16-at2.result m.u16-at2.ensures.0 (m_fits fit)
-    c.before.if4.true
+    c.refused-then-end-m.ensures
+    ∙ loop_length s.args.bytes.now s.requires.0 s.requires.1 n.if-end-lt10.left n.u16_at-n.result n.u16_at-n.ensures.0 (n_fits m.before) m.u16_at-m.result m.u16_at-m.ensures.0 (m_fits fit)
+    c.if-end-m.true
 
-rows-fault-requires : tie.Need-rows-fault-requires
+rows-fault-requires : tie.Need-rows_fault-requires
 rows-fault-requires c κs = search rules
 
 ends-requires : tie.Need-ends-requires
 ends-requires c κs = search rules
 
-returns-5 : tie.Need-returns-5
+returns-5 : tie.Need-returns
 returns-5 c =
-    let at = c.before.rows-fault in
+    let at = c.rows_fault in
     let fit = c.before.before.before in
     let m = m-of fit in
     let n = n-of m in
     let s = start n in
     c.ends.ensures
-    ∙ loop_values s.args.bytes.now s.pre.0 s.pre.1 n.before.if1.left n.u16-at.result n.u16-at.ensures.0 (n_fits m.before) m.u16-at2.result m.u16-at2.ensures.0 (m_fits fit)
-    c.before.before.if4.false at.result at.ensures
+    ∙ loop_values s.args.bytes.now s.requires.0 s.requires.1 n.if-end-lt10.left n.u16_at-n.result n.u16_at-n.ensures.0 (n_fits m.before) m.u16_at-m.result m.u16_at-m.ensures.0 (m_fits fit)
+    c.if-end-m.false at.result at.ensures
 
-pub loop-record-spec : {M : Type 1} → statement M
-loop-record-spec =
+pub loop_record_spec : {M : Type 1} → statement M
+loop_record_spec =
     tie.close
     (tie.spec
     refused-requires

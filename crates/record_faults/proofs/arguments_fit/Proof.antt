@@ -4,18 +4,18 @@ use borrow.Author.Rules.{rules}
 use Rattle.record_faults.proofs.arguments_fit.Statement.{statement}
 use Rattle.record_faults.proofs.arguments_fit.Tie as tie
 
-variables-fit-requires : tie.Need-variables-fit-requires
+variables-fit-requires : tie.Need-variables_fit-requires
 variables-fit-requires c κs = search rules
 
-rows-fit-requires : tie.Need-rows-fit-requires
+rows-fit-requires : tie.Need-rows_fit-requires
 rows-fit-requires c κs = search rules
 
-returns : tie.Need-returns
-returns c = rw (sym c.before.before.variables-fit.ensures ∙ c.before.if1.true) c.rows_fit.ensures
+returns : tie.Need-returns-then-variables_fit
+returns c = rw (sym c.variables_fit.ensures ∙ c.if-variables_fit.true) c.rows_fit.ensures
 
-returns-2 : tie.Need-returns-2
-returns-2 c = rw (sym c.before.variables-fit.ensures ∙ c.if1.false) c.if1.false
+returns-2 : tie.Need-returns-else-variables_fit
+returns-2 c = rw (sym c.variables_fit.ensures ∙ c.if-variables_fit.false) c.if-variables_fit.false
 
-pub arguments-fit-spec : {M : Type 1} → statement M
-arguments-fit-spec =
+pub arguments_fit_spec : {M : Type 1} → statement M
+arguments_fit_spec =
     tie.close (tie.spec variables-fit-requires rows-fit-requires returns returns-2)

@@ -8,30 +8,30 @@ use borrow.Author.Rules.{rules}
 use Rattle.record_faults.proofs.directions_fault.Statement.{statement}
 use Rattle.record_faults.proofs.directions_fault.Tie as tie
 
-directions-fit-requires : tie.Need-directions-fit-requires
+directions-fit-requires : tie.Need-directions_fit-requires
 directions-fit-requires c κs = search rules
 
-mul-result : tie.Need-overflow-mul-result
+mul-result : tie.Need-overflow_mul-result
 mul-result c = search rules
 
-add-result : tie.Need-overflow-add-result
+add-result : tie.Need-overflow_add-result
 add-result c = search rules
 
-first-out-requires : tie.Need-first-out-requires
+first-out-requires : tie.Need-first_out-requires
 unfolding wide_of
-first-out-requires c κs = c.before.before.before.requires
+first-out-requires c κs = c.requires
 
-returns : tie.Need-returns
+returns : tie.Need-returns-then-directions_fit
 unfolding width direction
 returns c =
-    let a = c.before.before.before.args in
-    all_in_range direction 4 a.bytes.now a.place a.count refl (sym c.before.directions-fit.ensures ∙ c.if1.true)
+    let a = c.args in
+    all_in_range direction 4 a.bytes.now a.place a.count refl (sym c.directions_fit.ensures ∙ c.if-directions_fit.true)
 
-returns-2 : tie.Need-returns-2
+returns-2 : tie.Need-returns-else-directions_fit
 unfolding field_of
 returns-2 c = c.first_out.ensures
 
-pub directions-fault-spec : {M : Type 1} → statement M
-directions-fault-spec =
+pub directions_fault_spec : {M : Type 1} → statement M
+directions_fault_spec =
     tie.close
     (tie.spec directions-fit-requires mul-result add-result first-out-requires returns returns-2)

@@ -10,49 +10,49 @@ use borrow.Author.Rules.{rules}
 use Rattle.record_faults.proofs.entries_fit.Statement.{statement}
 use Rattle.record_faults.proofs.entries_fit.Tie as tie
 
-abbrev invariant-loop : tie.invariant-loop
-invariant-loop bytes place count all₀ i₀ all i = (i ≤ count) × (all ≡ all_fit entry bytes place i)
+abbrev invariant-loop-i : tie.invariant-loop-i
+invariant-loop-i bytes place count all₀ i₀ all i = (i ≤ count) × (all ≡ all_fit entry bytes place i)
 
-abbrev decreases-loop : tie.decreases-loop
-decreases-loop bytes place count all₀ i₀ all i = count - i
+abbrev decreases-loop-i : tie.decreases-loop-i
+decreases-loop-i bytes place count all₀ i₀ all i = count - i
 
-loop-holds : tie.Need-loop-init invariant-loop decreases-loop
+loop-holds : tie.Need-loop-i-init invariant-loop-i decreases-loop-i
 unfolding width entry
-loop-holds c = (omega arith, let a = c.before.args in fit_none entry 2 a.bytes.now a.place a.count refl)
+loop-holds c = (omega arith, let a = c.args in fit_none entry 2 a.bytes.now a.place a.count refl)
 
-mul-entry-fits : tie.Need-overflow-mul-entry-fits invariant-loop decreases-loop
+mul-entry-fits : tie.Need-overflow_mul-i invariant-loop-i decreases-loop-i
 mul-entry-fits c = search rules
 
-add-entry-fits : tie.Need-overflow-add-entry-fits invariant-loop decreases-loop
+add-entry-fits : tie.Need-overflow_add-place invariant-loop-i decreases-loop-i
 add-entry-fits c = search rules
 
-entry-fits-requires : tie.Need-entry-fits-requires invariant-loop decreases-loop
+entry-fits-requires : tie.Need-entry_fits-all-requires invariant-loop-i decreases-loop-i
 entry-fits-requires c κs = search rules
 
-add-i : tie.Need-overflow-add-i invariant-loop decreases-loop
+add-i : tie.Need-overflow_step-i invariant-loop-i decreases-loop-i
 add-i c = search rules
 
-loop-less : tie.Need-loop-smaller invariant-loop decreases-loop
+loop-less : tie.Need-loop-i-smaller invariant-loop-i decreases-loop-i
 loop-less c = search rules
 
-loop-again : tie.Need-loop-preserved invariant-loop decreases-loop
+loop-again : tie.Need-loop-i-preserved invariant-loop-i decreases-loop-i
 unfolding width entry
 loop-again c =
     let turn = c.before.before in
-    let a = turn.before.before.args in
-    (omega arith, fit_more entry 2 a.bytes.now a.place a.count refl turn.loop.i turn.loop.invariant.1 c.entry_fits.ensures)
+    let a = turn.args in
+    (omega arith, fit_more entry 2 a.bytes.now a.place a.count refl turn.loop-i.i turn.loop-i.invariant.1 c.entry_fits-all.ensures)
 
-returns : tie.Need-returns invariant-loop decreases-loop
+returns : tie.Need-returns invariant-loop-i decreases-loop-i
 returns c =
-    let end : c.before.loop.i ≡ c.before.before.before.args.count = omega arith in
-    rw end at c.before.loop.invariant.1
+    let end : c.loop-i.i ≡ c.args.count = omega arith in
+    rw end at c.loop-i.invariant.1
 
-pub entries-fit-spec : {M : Type 1} → statement M
-entries-fit-spec =
+pub entries_fit_spec : {M : Type 1} → statement M
+entries_fit_spec =
     tie.close
     (tie.spec
-    invariant-loop
-    decreases-loop
+    invariant-loop-i
+    decreases-loop-i
     loop-holds
     mul-entry-fits
     add-entry-fits

@@ -10,49 +10,49 @@ use borrow.Author.Rules.{rules}
 use Rattle.record_faults.proofs.multipliers_fit.Statement.{statement}
 use Rattle.record_faults.proofs.multipliers_fit.Tie as tie
 
-abbrev invariant-loop : tie.invariant-loop
-invariant-loop bytes place count all₀ i₀ all i = (i ≤ count) × (all ≡ all_fit multiplier bytes place i)
+abbrev invariant-loop-i : tie.invariant-loop-i
+invariant-loop-i bytes place count all₀ i₀ all i = (i ≤ count) × (all ≡ all_fit multiplier bytes place i)
 
-abbrev decreases-loop : tie.decreases-loop
-decreases-loop bytes place count all₀ i₀ all i = count - i
+abbrev decreases-loop-i : tie.decreases-loop-i
+decreases-loop-i bytes place count all₀ i₀ all i = count - i
 
-loop-holds : tie.Need-loop-init invariant-loop decreases-loop
+loop-holds : tie.Need-loop-i-init invariant-loop-i decreases-loop-i
 unfolding width multiplier
-loop-holds c = (omega arith, let a = c.before.args in fit_none multiplier 2 a.bytes.now a.place a.count refl)
+loop-holds c = (omega arith, let a = c.args in fit_none multiplier 2 a.bytes.now a.place a.count refl)
 
-mul-multiplier-fits : tie.Need-overflow-mul-multiplier-fits invariant-loop decreases-loop
+mul-multiplier-fits : tie.Need-overflow_mul-i invariant-loop-i decreases-loop-i
 mul-multiplier-fits c = search rules
 
-add-multiplier-fits : tie.Need-overflow-add-multiplier-fits invariant-loop decreases-loop
+add-multiplier-fits : tie.Need-overflow_add-place invariant-loop-i decreases-loop-i
 add-multiplier-fits c = search rules
 
-multiplier-fits-requires : tie.Need-multiplier-fits-requires invariant-loop decreases-loop
+multiplier-fits-requires : tie.Need-multiplier_fits-all-requires invariant-loop-i decreases-loop-i
 multiplier-fits-requires c κs = search rules
 
-add-i : tie.Need-overflow-add-i invariant-loop decreases-loop
+add-i : tie.Need-overflow_step-i invariant-loop-i decreases-loop-i
 add-i c = search rules
 
-loop-less : tie.Need-loop-smaller invariant-loop decreases-loop
+loop-less : tie.Need-loop-i-smaller invariant-loop-i decreases-loop-i
 loop-less c = search rules
 
-loop-again : tie.Need-loop-preserved invariant-loop decreases-loop
+loop-again : tie.Need-loop-i-preserved invariant-loop-i decreases-loop-i
 unfolding width multiplier
 loop-again c =
     let turn = c.before.before in
-    let a = turn.before.before.args in
-    (omega arith, fit_more multiplier 2 a.bytes.now a.place a.count refl turn.loop.i turn.loop.invariant.1 c.multiplier_fits.ensures)
+    let a = turn.args in
+    (omega arith, fit_more multiplier 2 a.bytes.now a.place a.count refl turn.loop-i.i turn.loop-i.invariant.1 c.multiplier_fits-all.ensures)
 
-returns : tie.Need-returns invariant-loop decreases-loop
+returns : tie.Need-returns invariant-loop-i decreases-loop-i
 returns c =
-    let end : c.before.loop.i ≡ c.before.before.before.args.count = omega arith in
-    rw end at c.before.loop.invariant.1
+    let end : c.loop-i.i ≡ c.args.count = omega arith in
+    rw end at c.loop-i.invariant.1
 
-pub multipliers-fit-spec : {M : Type 1} → statement M
-multipliers-fit-spec =
+pub multipliers_fit_spec : {M : Type 1} → statement M
+multipliers_fit_spec =
     tie.close
     (tie.spec
-    invariant-loop
-    decreases-loop
+    invariant-loop-i
+    decreases-loop-i
     loop-holds
     mul-multiplier-fits
     add-multiplier-fits

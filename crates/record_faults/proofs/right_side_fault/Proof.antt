@@ -7,22 +7,22 @@ use borrow.Author.Rules.{rules}
 use Rattle.record_faults.proofs.right_side_fault.Statement.{statement}
 use Rattle.record_faults.proofs.right_side_fault.Tie as tie
 
-right-side-fits-requires : tie.Need-right-side-fits-requires
+right-side-fits-requires : tie.Need-right_side_fits-requires
 right-side-fits-requires c κs = search rules
 
-add-result : tie.Need-overflow-add-result
+add-result : tie.Need-overflow_add-result
 add-result c = search rules
 
-returns : tie.Need-returns
+returns : tie.Need-returns-then-right_side_fits
 unfolding width right_side
 returns c =
-    let a = c.before.before.before.args in
-    one_fits a.bytes.now right_side a.place (sym c.before.right_side_fits.ensures ∙ c.if1.true)
+    let a = c.args in
+    one_fits a.bytes.now right_side a.place (sym c.right_side_fits.ensures ∙ c.if-right_side_fits.true)
 
-returns-2 : tie.Need-returns-2
+returns-2 : tie.Need-returns-else-right_side_fits
 returns-2 c =
-    let a = c.before.before.before.args in
-    one_out a.bytes.now right_side a.place (sym c.before.right_side_fits.ensures ∙ c.if1.false)
+    let a = c.args in
+    one_out a.bytes.now right_side a.place (sym c.right_side_fits.ensures ∙ c.if-right_side_fits.false)
 
-pub right-side-fault-spec : {M : Type 1} → statement M
-right-side-fault-spec = tie.close (tie.spec right-side-fits-requires add-result returns returns-2)
+pub right_side_fault_spec : {M : Type 1} → statement M
+right_side_fault_spec = tie.close (tie.spec right-side-fits-requires add-result returns returns-2)

@@ -11,5 +11,5 @@ returns : tie.Need-returns
 unfolding rows
 returns c = c.between.ensures
 
-pub rows-fit-spec : {M : Type 1} → statement M
-rows-fit-spec = tie.close (tie.spec between-requires returns)
+pub rows_fit_spec : {M : Type 1} → statement M
+rows_fit_spec = tie.close (tie.spec between-requires returns)

@@ -7,22 +7,22 @@ use borrow.Author.Rules.{rules}
 use Rattle.record_faults.proofs.scale_fault.Statement.{statement}
 use Rattle.record_faults.proofs.scale_fault.Tie as tie
 
-scale-fits-requires : tie.Need-scale-fits-requires
+scale-fits-requires : tie.Need-scale_fits-requires
 scale-fits-requires c κs = search rules
 
-add-result : tie.Need-overflow-add-result
+add-result : tie.Need-overflow_add-result
 add-result c = search rules
 
-returns : tie.Need-returns
+returns : tie.Need-returns-then-scale_fits
 unfolding width scale
 returns c =
-    let a = c.before.before.before.args in
-    one_fits a.bytes.now scale a.place (sym c.before.scale_fits.ensures ∙ c.if1.true)
+    let a = c.args in
+    one_fits a.bytes.now scale a.place (sym c.scale_fits.ensures ∙ c.if-scale_fits.true)
 
-returns-2 : tie.Need-returns-2
+returns-2 : tie.Need-returns-else-scale_fits
 returns-2 c =
-    let a = c.before.before.before.args in
-    one_out a.bytes.now scale a.place (sym c.before.scale_fits.ensures ∙ c.if1.false)
+    let a = c.args in
+    one_out a.bytes.now scale a.place (sym c.scale_fits.ensures ∙ c.if-scale_fits.false)
 
-pub scale-fault-spec : {M : Type 1} → statement M
-scale-fault-spec = tie.close (tie.spec scale-fits-requires add-result returns returns-2)
+pub scale_fault_spec : {M : Type 1} → statement M
+scale_fault_spec = tie.close (tie.spec scale-fits-requires add-result returns returns-2)

@@ -11,5 +11,5 @@ returns : tie.Need-returns
 unfolding variables
 returns c = c.between.ensures
 
-pub variables-fit-spec : {M : Type 1} → statement M
-variables-fit-spec = tie.close (tie.spec between-requires returns)
+pub variables_fit_spec : {M : Type 1} → statement M
+variables_fit_spec = tie.close (tie.spec between-requires returns)

@@ -9,75 +9,75 @@ use borrow.Author.Rules.{rules}
 use Rattle.record_fields.proofs.value_count.Statement.{statement}
 use Rattle.record_fields.proofs.value_count.Tie as tie
 
-small-loop : (c : tie.At-match-keys1) → c.before.args.m * (2 * c.before.args.n + 1) ≤ 64 * 33
-small-loop c = let wide : 2 * c.before.args.n + 1 ≤ 33 = omega (arith, c.before.requires) in mul-le-mul c.before.requires.1 wide
+small-loop : (c : tie.In-1) → c.args.m * (2 * c.args.n + 1) ≤ 64 * 33
+small-loop c = let wide : 2 * c.args.n + 1 ≤ 33 = omega (arith, c.requires) in mul-le-mul c.requires.1 wide
 
-small-lasso : (c : tie.At-match-keys4) → c.before.args.ms * (2 * c.before.args.n + 2) ≤ 64 * 34
-small-lasso c = let wide : 2 * c.before.args.n + 2 ≤ 34 = omega (arith, c.before.requires) in mul-le-mul c.before.requires.2 wide
+small-lasso : (c : tie.In-4) → c.args.ms * (2 * c.args.n + 2) ≤ 64 * 34
+small-lasso c = let wide : 2 * c.args.n + 2 ≤ 34 = omega (arith, c.requires) in mul-le-mul c.requires.2 wide
 
-mul-result : tie.Need-overflow-mul-result
+mul-result : tie.Need-overflow_mul-result
 mul-result c = search rules
 
-add-result : tie.Need-overflow-add-result
+add-result : tie.Need-overflow_add-result
 add-result c = search rules
 
-mul-result-2 : tie.Need-overflow-mul-result-2
+mul-result-2 : tie.Need-overflow_mul-result-in-1
 mul-result-2 c = omega (arith, small-loop c)
 
-mul-result-3 : tie.Need-overflow-mul-result-3
+mul-result-3 : tie.Need-overflow_mul-result-in-2
 mul-result-3 c = search rules
 
-mul-result-4 : tie.Need-overflow-mul-result-4
+mul-result-4 : tie.Need-overflow_mul-result-in-3
 mul-result-4 c = search rules
 
-add-result-2 : tie.Need-overflow-add-result-2
+add-result-2 : tie.Need-overflow_add-result-in-3
 add-result-2 c = search rules
 
-add-result-3 : tie.Need-overflow-add-result-3
+add-result-3 : tie.Need-overflow_add-result-in-4
 add-result-3 c = search rules
 
-mul-result-5 : tie.Need-overflow-mul-result-5
+mul-result-5 : tie.Need-overflow_mul-result-in-4
 mul-result-5 c = search rules
 
-add-result-4 : tie.Need-overflow-add-result-4
+add-result-4 : tie.Need-overflow_add-result-in-4-2
 add-result-4 c = search rules
 
-mul-result-6 : tie.Need-overflow-mul-result-6
+mul-result-6 : tie.Need-overflow_mul-result-in-4-2
 mul-result-6 c = omega (arith, small-lasso c)
 
-add-result-5 : tie.Need-overflow-add-result-5
+add-result-5 : tie.Need-overflow_add-result-in-4-3
 add-result-5 c = omega (arith, small-lasso c)
 
-mul-result-7 : tie.Need-overflow-mul-result-7
+mul-result-7 : tie.Need-overflow_mul-result-in-4-3
 mul-result-7 c = search rules
 
-add-result-6 : tie.Need-overflow-add-result-6
+add-result-6 : tie.Need-overflow_add-result-in-4-4
 add-result-6 c = omega (arith, small-lasso c)
 
-returns : tie.Need-returns
+returns : tie.Need-returns-in-1
 unfolding kind_of value_count
-returns c = rw c.match.keys1
+returns c = rw c.in-1.is
 
-returns-2 : tie.Need-returns-2
+returns-2 : tie.Need-returns-in-2
 unfolding kind_of value_count
-returns-2 c = rw c.match.keys2
+returns-2 c = rw c.in-2.is
 
-returns-3 : tie.Need-returns-3
+returns-3 : tie.Need-returns-in-3
 unfolding kind_of value_count
-returns-3 c = rw c.match.keys3
+returns-3 c = rw c.in-3.is
 
-returns-4 : tie.Need-returns-4
+returns-4 : tie.Need-returns-in-4
 unfolding kind_of value_count
-returns-4 c = rw c.match.keys4
+returns-4 c = rw c.in-4.is
 
-returns-5 : tie.Need-returns-5
+returns-5 : tie.Need-returns-in_default
 unfolding value_count
 returns-5 c =
-    let rest = c.match.rest in
-    rw (other_kind c.before.args.kind rest.0.0.0.1 rest.0.0.1 rest.0.1 rest.1)
+    let rest = c.in_default.in_default-own.rest in
+    rw (other_kind c.args.kind rest.0.0.0.1 rest.0.0.1 rest.0.1 rest.1)
 
-pub value-count-spec : {M : Type 1} → statement M
-value-count-spec =
+pub value_count_spec : {M : Type 1} → statement M
+value_count_spec =
     tie.close
     (tie.spec
     mul-result

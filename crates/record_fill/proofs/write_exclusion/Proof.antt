@@ -17,14 +17,14 @@ fit : (s : tie.Start)
     → (in_range (scale ∷ []) s.args.values.now ≡ true) × (in_range (replicate (3 * s.args.n) direction) (drop 1 s.args.values.now) ≡ true)
 fit s = in_range_both (scale ∷ []) (replicate (3 * s.args.n) direction) s.args.values.now 0 1 refl (omega (arith, s.requires.0)) s.requires.2
 
-write-u16s-requires : tie.Need-write-u16s-requires
+write-u16s-requires : tie.Need-write_u16s-requires
 unfolding scale
-write-u16s-requires c κs = (search rules, search rules, held_run u16 scale 1 c.before.before.args.values.now refl (fit c.before.before).0)
+write-u16s-requires c κs = (search rules, search rules, held_run u16 scale 1 c.args.values.now refl (fit c.before.before).0)
 
-mul-write-i32s : tie.Need-overflow-mul-write-i32s
+mul-write-i32s : tie.Need-overflow_mul-n
 mul-write-i32s c = search rules
 
-write-i32s-requires : tie.Need-write-i32s-requires
+write-i32s-requires : tie.Need-write_i32s-requires
 unfolding direction
 write-i32s-requires c κs =
     let after-write-u16s = c.before.before.before in
@@ -32,7 +32,7 @@ write-i32s-requires c κs =
     let a = start.args in
     (search rules, search rules, held_run i32 direction (3 * a.n) (drop 1 a.values.now) refl (fit start).1)
 
-same_length : tie.Need-same-length
+same_length : tie.Need-shape_of-body
 same_length c = search rules
 
 returns : tie.Need-returns
@@ -42,13 +42,13 @@ returns c =
     let after-write-u16s = after-write-i32s.before.before.before.before in
     let start = after-write-u16s.before.before.before in
     let a = start.args in
-    let first = after-write-u16s.write-u16s in
-    let second = after-write-i32s.write-i32s in
+    let first = after-write-u16s.write_u16s in
+    let second = after-write-i32s.write_i32s in
     let zs = a.values.now in
-    write_both (scale ∷ []) (replicate (3 * a.n) direction) zs 0 1 refl (omega arith) 0 2 a.body.now first.new.0 refl
+    write_both (scale ∷ []) (replicate (3 * a.n) direction) zs 0 1 refl (omega arith) 0 2 a.body.now first.new.body refl
     (first.ensures ∙ ap (sets a.body.now 0) (bytes_run u16 scale 1 zs refl))
-    (second.ensures ∙ ap (sets first.new.0 2) (bytes_run i32 direction (3 * a.n) (drop 1 zs) refl))
+    (second.ensures ∙ ap (sets first.new.body 2) (bytes_run i32 direction (3 * a.n) (drop 1 zs) refl))
 
-pub write-exclusion-spec : {M : Type 1} → statement M
-write-exclusion-spec =
+pub write_exclusion_spec : {M : Type 1} → statement M
+write_exclusion_spec =
     tie.close (tie.spec write-u16s-requires mul-write-i32s write-i32s-requires same_length returns)

@@ -24,22 +24,22 @@ fit s =
     in_range_both (replicate a.count entry) (right_side ∷ []) a.values.now a.index (a.index + a.count)
     (omega (arith, length-replicate a.count entry)) (omega (arith, length-replicate a.count entry)) s.requires.2
 
-write-i16s-requires : tie.Need-write-i16s-requires
+write-i16s-requires : tie.Need-write_i16s-requires
 unfolding entry
 write-i16s-requires c κs =
-    let a = c.before.before.args in
+    let a = c.args in
     (search rules, search rules, held_run i16 entry a.count (drop a.index a.values.now) refl (fit c.before.before).0)
 
-mul-write-i32s : tie.Need-overflow-mul-write-i32s
+mul-write-i32s : tie.Need-overflow_mul-count
 mul-write-i32s c = search rules
 
-add-write-i32s : tie.Need-overflow-add-write-i32s
+add-write-i32s : tie.Need-overflow_add-place
 add-write-i32s c = search rules
 
-add-write-i32s-2 : tie.Need-overflow-add-write-i32s-2
+add-write-i32s-2 : tie.Need-overflow_add-index
 add-write-i32s-2 c = search rules
 
-write-i32s-requires : tie.Need-write-i32s-requires
+write-i32s-requires : tie.Need-write_i32s-requires
 unfolding right_side
 write-i32s-requires c κs =
     let after-write-i16s = c.before.before.before in
@@ -47,7 +47,7 @@ write-i32s-requires c κs =
     let a = start.args in
     (search rules, search rules, held_run i32 right_side 1 (drop (a.index + a.count) a.values.now) refl (fit start).1)
 
-same_length : tie.Need-same-length
+same_length : tie.Need-shape_of-body
 same_length c = search rules
 
 returns : tie.Need-returns
@@ -57,17 +57,17 @@ returns c =
     let after-write-i16s = after-write-i32s.before.before.before.before in
     let start = after-write-i16s.before.before.before in
     let a = start.args in
-    let first = after-write-i16s.write-i16s in
-    let second = after-write-i32s.write-i32s in
+    let first = after-write-i16s.write_i16s in
+    let second = after-write-i32s.write_i32s in
     let place = a.place + 2 * a.count in
     let zs = a.values.now in
     write_both (replicate a.count entry) (right_side ∷ []) zs a.index (a.index + a.count) (omega (arith, length-replicate a.count entry)) (omega (arith, length-replicate a.count entry))
-    a.place place a.body.now first.new.0 (omega (arith, widths_replicate a.count entry))
+    a.place place a.body.now first.new.body (omega (arith, widths_replicate a.count entry))
     (first.ensures ∙ ap (sets a.body.now a.place) (bytes_run i16 entry a.count (drop a.index zs) refl))
-    (second.ensures ∙ ap (sets first.new.0 place) (bytes_run i32 right_side 1 (drop (a.index + a.count) zs) refl))
+    (second.ensures ∙ ap (sets first.new.body place) (bytes_run i32 right_side 1 (drop (a.index + a.count) zs) refl))
 
-pub write-linear-spec : {M : Type 1} → statement M
-write-linear-spec =
+pub write_linear_spec : {M : Type 1} → statement M
+write_linear_spec =
     tie.close
     (tie.spec
     write-i16s-requires

@@ -13,16 +13,16 @@ use borrow.Author.Rules.{rules}
 use Rattle.record_fill.proofs.write_loop.Statement.{statement}
 use Rattle.record_fill.proofs.write_loop.Tie as tie
 
-put-u16-requires : tie.Need-put-u16-requires
+put-u16-requires : tie.Need-put_u16-requires
 put-u16-requires c κs = search rules
 
-put-u16-requires-2 : tie.Need-put-u16-requires-2
+put-u16-requires-2 : tie.Need-put_u16-requires-2
 put-u16-requires-2 c κs = search rules
 
-write-rows-requires : tie.Need-write-rows-requires
+write-rows-requires : tie.Need-write_rows-requires
 write-rows-requires c κs = search rules
 
-same_length : tie.Need-same-length
+same_length : tie.Need-shape_of-body
 same_length c = search rules
 
 returns : tie.Need-returns
@@ -33,16 +33,16 @@ returns c =
     let start = after-put-u16.before.before.before in
     let a = start.args in
     let n-put = after-put-u16.put_u16 in
-    let m-put = after-put-u162.put-u162 in
-    let rows = after-write-rows.write-rows in
+    let m-put = after-put-u162.put_u16-2 in
+    let rows = after-write-rows.write_rows in
     let second =
-    sets_both n-put.new.0 2 4 (digits 2 a.m) (bytes_of (rows_of a.n a.m) a.values.now)
-    (m-put.ensures ∙ put_is n-put.new.0 (digits 2 a.m) 2 2 (length_digits 2 a.m) (omega (arith, n-put.auto)))
+    sets_both n-put.new.room 2 4 (digits 2 a.m) (bytes_of (rows_of a.n a.m) a.values.now)
+    (m-put.ensures ∙ put_is n-put.new.room (digits 2 a.m) 2 2 (length_digits 2 a.m) (omega (arith, n-put.auto)))
     rows.ensures (ap (λ k. 2 + k) (sym (length_digits 2 a.m))) in
     sets_both a.body.now 0 2 (digits 2 a.n) (digits 2 a.m ++ bytes_of (rows_of a.n a.m) a.values.now)
     (n-put.ensures ∙ put_is a.body.now (digits 2 a.n) 0 2 (length_digits 2 a.n) (omega arith)) second (ap (λ k. 0 + k) (sym (length_digits 2 a.n)))
 
-pub write-loop-spec : {M : Type 1} → statement M
-write-loop-spec =
+pub write_loop_spec : {M : Type 1} → statement M
+write_loop_spec =
     tie.close
     (tie.spec put-u16-requires put-u16-requires-2 write-rows-requires same_length returns)

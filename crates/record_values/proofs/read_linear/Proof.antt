@@ -15,22 +15,22 @@ use borrow.Author.Rules.{rules}
 use Rattle.record_values.proofs.read_linear.Statement.{statement}
 use Rattle.record_values.proofs.read_linear.Tie as tie
 
-read-i16s-requires : tie.Need-read-i16s-requires
+read-i16s-requires : tie.Need-read_i16s-requires
 read-i16s-requires c κs = search rules
 
-mul-read-i32s : tie.Need-overflow-mul-read-i32s
+mul-read-i32s : tie.Need-overflow_mul-count
 mul-read-i32s c = search rules
 
-add-read-i32s : tie.Need-overflow-add-read-i32s
+add-read-i32s : tie.Need-overflow_add-place
 add-read-i32s c = search rules
 
-add-read-i32s-2 : tie.Need-overflow-add-read-i32s-2
+add-read-i32s-2 : tie.Need-overflow_add-index
 add-read-i32s-2 c = search rules
 
-read-i32s-requires : tie.Need-read-i32s-requires
+read-i32s-requires : tie.Need-read_i32s-requires
 read-i32s-requires c κs = search rules
 
-same_length : tie.Need-same-length
+same_length : tie.Need-shape_of-values
 same_length c = search rules
 
 returns : tie.Need-returns
@@ -39,17 +39,17 @@ returns c =
     let after-read-i16s = c.before.before.before.before in
     let start = after-read-i16s.before.before.before in
     let a = start.args in
-    let first = after-read-i16s.read-i16s in
-    let second = c.before.read-i32s in
+    let first = after-read-i16s.read_i16s in
+    let second = c.read_i32s in
     let place = a.place + 2 * a.count in
     let bytes = a.bytes.now in
-    read_both (replicate a.count entry) (right_side ∷ []) bytes a.place place a.index (a.index + a.count) a.values.now first.new.1.1.1.0
+    read_both (replicate a.count entry) (right_side ∷ []) bytes a.place place a.index (a.index + a.count) a.values.now first.new.values
     (omega (arith, widths_replicate a.count entry)) (omega (arith, length-replicate a.count entry))
     (first.ensures ∙ ap (sets a.values.now a.index) (values_run i16 entry a.count (drop a.place bytes) refl))
-    (second.ensures ∙ ap (sets first.new.1.1.1.0 (a.index + a.count)) (values_run i32 right_side 1 (drop place bytes) refl))
+    (second.ensures ∙ ap (sets first.new.values (a.index + a.count)) (values_run i32 right_side 1 (drop place bytes) refl))
 
-pub read-linear-spec : {M : Type 1} → statement M
-read-linear-spec =
+pub read_linear_spec : {M : Type 1} → statement M
+read_linear_spec =
     tie.close
     (tie.spec
     read-i16s-requires

@@ -12,86 +12,86 @@ use borrow.Author.Rules.{rules}
 use Rattle.record_values.proofs.read_list.Statement.{statement}
 use Rattle.record_values.proofs.read_list.Tie as tie
 
-sized-1 : (c : tie.At-match-keys1) → (let a = c.before.before.args in (10 + a.m * (4 * a.n + 4) ≤ length a.bytes.now) × (0 + a.m * (2 * a.n + 1) ≤ length a.values.now))
+sized-1 : (c : tie.In-1) → (let a = c.args in (10 + a.m * (4 * a.n + 4) ≤ length a.bytes.now) × (0 + a.m * (2 * a.n + 1) ≤ length a.values.now))
 unfolding kind_of length_of value_count
-sized-1 c = omega (arith, rw c.match.keys1 at c.before.before.requires.0, rw c.match.keys1 at c.before.before.requires.1)
+sized-1 c = omega (arith, rw c.in-1.is at c.requires.0, rw c.in-1.is at c.requires.1)
 
-sized-2 : (c : tie.At-match-keys2) → (let a = c.before.before.args in (6 + 2 * a.m * 2 ≤ length a.bytes.now) × (0 + 2 * a.m ≤ length a.values.now))
+sized-2 : (c : tie.In-2) → (let a = c.args in (6 + 2 * a.m * 2 ≤ length a.bytes.now) × (0 + 2 * a.m ≤ length a.values.now))
 unfolding kind_of length_of value_count
-sized-2 c = omega (arith, rw c.match.keys2 at c.before.before.requires.0, rw c.match.keys2 at c.before.before.requires.1)
+sized-2 c = omega (arith, rw c.in-2.is at c.requires.0, rw c.in-2.is at c.requires.1)
 
-sized-3 : (c : tie.At-match-keys3) → (let a = c.before.before.args in (8 + 12 * a.n ≤ length a.bytes.now) × (1 + 3 * a.n ≤ length a.values.now))
+sized-3 : (c : tie.In-3) → (let a = c.args in (8 + 12 * a.n ≤ length a.bytes.now) × (1 + 3 * a.n ≤ length a.values.now))
 unfolding kind_of length_of value_count
-sized-3 c = omega (arith, rw c.match.keys3 at c.before.before.requires.0, rw c.match.keys3 at c.before.before.requires.1)
+sized-3 c = omega (arith, rw c.in-3.is at c.requires.0, rw c.in-3.is at c.requires.1)
 
-sized-4 : (c : tie.At-match-keys4) → (let a = c.before.before.args in (8 + (a.ms * (4 * a.n + 4) + (2 * a.n + 4 + (2 * a.ms + 6 * a.m + 10))) ≤ length a.bytes.now) × (1 + (a.ms * (2 * a.n + 1) + (a.n + 1 + (a.ms + 3 * a.m + 5))) ≤ length a.values.now))
+sized-4 : (c : tie.In-4) → (let a = c.args in (8 + (a.ms * (4 * a.n + 4) + (2 * a.n + 4 + (2 * a.ms + 6 * a.m + 10))) ≤ length a.bytes.now) × (1 + (a.ms * (2 * a.n + 1) + (a.n + 1 + (a.ms + 3 * a.m + 5))) ≤ length a.values.now))
 unfolding kind_of length_of value_count
-sized-4 c = omega (arith, rw c.match.keys4 at c.before.before.requires.0, rw c.match.keys4 at c.before.before.requires.1)
+sized-4 c = omega (arith, rw c.in-4.is at c.requires.0, rw c.in-4.is at c.requires.1)
 
-read-rows-requires : tie.Need-read-rows-requires
+read-rows-requires : tie.Need-read_rows-requires
 read-rows-requires c κs = sized-1 c.before
 
-mul-read-u16s : tie.Need-overflow-mul-read-u16s
+mul-read-u16s : tie.Need-overflow_mul-m
 mul-read-u16s c = omega (arith, sized-2 c)
 
-read-u16s-requires : tie.Need-read-u16s-requires
+read-u16s-requires : tie.Need-read_u16s-requires
 read-u16s-requires c κs = sized-2 c.before
 
-read-exclusion-requires : tie.Need-read-exclusion-requires
+read-exclusion-requires : tie.Need-read_exclusion-requires
 read-exclusion-requires c κs = sized-3 c.before
 
-read-lasso-requires : tie.Need-read-lasso-requires
+read-lasso-requires : tie.Need-read_lasso-requires
 read-lasso-requires c κs = sized-4 c.before
 
-same_length : tie.Need-same-length
+same_length : tie.Need-shape_of-values-in-1
 same_length c = search rules
 
-returns : tie.Need-returns
+returns : tie.Need-returns-in-1
 returns c =
     let at-match = c.before.before.before in
     let start = at-match.before.before in
     let a = start.args in
-    c.before.read-rows.ensures ∙ ap (sets a.values.now 0) (list_1 a.bytes.now a.kind (record { n = a.n; m = a.m; ms = a.ms }) at-match.match.keys1)
+    c.read_rows.ensures ∙ ap (sets a.values.now 0) (list_1 a.bytes.now a.kind (record { n = a.n; m = a.m; ms = a.ms }) at-match.in-1.is)
 
-same-length-2 : tie.Need-same-length-2
+same-length-2 : tie.Need-shape_of-values-in-2
 same-length-2 c = search rules
 
-returns-2 : tie.Need-returns-2
+returns-2 : tie.Need-returns-in-2
 returns-2 c =
     let at-match = c.before.before.before in
     let start = at-match.before.before in
     let a = start.args in
-    c.before.read-u16s.ensures ∙ ap (sets a.values.now 0) (list_2 a.bytes.now a.kind (record { n = a.n; m = a.m; ms = a.ms }) at-match.match.keys2)
+    c.read_u16s.ensures ∙ ap (sets a.values.now 0) (list_2 a.bytes.now a.kind (record { n = a.n; m = a.m; ms = a.ms }) at-match.in-2.is)
 
-same-length-3 : tie.Need-same-length-3
+same-length-3 : tie.Need-shape_of-values-in-3
 same-length-3 c = search rules
 
-returns-3 : tie.Need-returns-3
+returns-3 : tie.Need-returns-in-3
 returns-3 c =
     let at-match = c.before.before.before in
     let start = at-match.before.before in
     let a = start.args in
-    c.before.read-exclusion.ensures ∙ ap (sets a.values.now 0) (list_3 a.bytes.now a.kind (record { n = a.n; m = a.m; ms = a.ms }) at-match.match.keys3)
+    c.read_exclusion.ensures ∙ ap (sets a.values.now 0) (list_3 a.bytes.now a.kind (record { n = a.n; m = a.m; ms = a.ms }) at-match.in-3.is)
 
-same-length-4 : tie.Need-same-length-4
+same-length-4 : tie.Need-shape_of-values-in-4
 same-length-4 c = search rules
 
-returns-4 : tie.Need-returns-4
+returns-4 : tie.Need-returns-in-4
 returns-4 c =
     let at-match = c.before.before.before in
     let start = at-match.before.before in
     let a = start.args in
-    c.before.read-lasso.ensures ∙ ap (sets a.values.now 0) (list_4 a.bytes.now a.kind (record { n = a.n; m = a.m; ms = a.ms }) at-match.match.keys4)
+    c.read_lasso.ensures ∙ ap (sets a.values.now 0) (list_4 a.bytes.now a.kind (record { n = a.n; m = a.m; ms = a.ms }) at-match.in-4.is)
 
-returns-5 : tie.Need-returns-5
+returns-5 : tie.Need-returns-in_default
 returns-5 c =
-    let a = c.before.before.args in
-    let rest = c.match.rest in
+    let a = c.args in
+    let rest = c.in_default.in_default-own.rest in
     ap (sets a.values.now 0)
     (list_other a.bytes.now a.kind (record { n = a.n; m = a.m; ms = a.ms }) (other_kind a.kind rest.0.0.0.1 rest.0.0.1 rest.0.1 rest.1))
 
-pub read-list-spec : {M : Type 1} → statement M
-read-list-spec =
+pub read_list_spec : {M : Type 1} → statement M
+read_list_spec =
     tie.close
     (tie.spec
     read-rows-requires

@@ -13,60 +13,60 @@ use Rattle.record_fields.proofs.Copies.{Copy, copy_start, copy_there, number_mor
 use Rattle.record_values.proofs.read_u16s.Statement.{statement}
 use Rattle.record_values.proofs.read_u16s.Tie as tie
 
-abbrev invariant-loop : tie.invariant-loop
-invariant-loop bytes place count values₀ index at₀ i₀ left₀ values at i left = Copy (numbers u16) 2 1 bytes place count values₀ index values at i left
+abbrev invariant-loop-left : tie.invariant-loop-left
+invariant-loop-left bytes place count values₀ index at₀ i₀ left₀ values at i left = Copy (numbers u16) 2 1 bytes place count values₀ index values at i left
 
-abbrev decreases-loop : tie.decreases-loop
-decreases-loop bytes place count values₀ index at₀ i₀ left₀ values at i left = left
+abbrev decreases-loop-left : tie.decreases-loop-left
+decreases-loop-left bytes place count values₀ index at₀ i₀ left₀ values at i left = left
 
 -- a number that is to come is there, and so is its place in the list
-there : (l : tie.At-loop invariant-loop decreases-loop) → 0 < l.loop.left → (l.loop.at + 2 ≤ length l.before.before.args.bytes.now) × (l.loop.i + 1 ≤ length l.loop.values)
-there l some = let s = l.before.before in copy_there l.loop.invariant some s.requires.0 (omega (arith, s.requires.1))
+there : (l : tie.At-loop-left invariant-loop-left decreases-loop-left) → 0 < l.loop-left.left → (l.loop-left.at + 2 ≤ length l.args.bytes.now) × (l.loop-left.i + 1 ≤ length l.loop-left.values)
+there l some = let s = l.before.before in copy_there l.loop-left.invariant some s.requires.0 (omega (arith, s.requires.1))
 
-loop-holds : tie.Need-loop-init invariant-loop decreases-loop
+loop-holds : tie.Need-loop-left-init invariant-loop-left decreases-loop-left
 loop-holds c = copy_start _ _ _ _ _ _ _ _
 
-u16-at-requires : tie.Need-u16-at-requires invariant-loop decreases-loop
-u16-at-requires c κs = (there c.before c.loop-test.true).0
+u16-at-requires : tie.Need-u16_at-requires invariant-loop-left decreases-loop-left
+u16-at-requires c κs = (there c.before c.loop-left-test.true).0
 
-cast-values : tie.Need-overflow-cast-values invariant-loop decreases-loop
+cast-values : tie.Need-overflow_cast-values invariant-loop-left decreases-loop-left
 cast-values c = search rules
 
-mul-t12 : tie.Need-overflow-mul-t12 invariant-loop decreases-loop
+mul-t12 : tie.Need-offset_bounds-values-i invariant-loop-left decreases-loop-left
 mul-t12 c = search rules
 
-slice-set-from-values : tie.Need-slice-set-from-values invariant-loop decreases-loop
-slice-set-from-values c = omega (arith, there c.before.before c.before.loop-test.true)
+slice-set-from-values : tie.Need-bounds-values-i invariant-loop-left decreases-loop-left
+slice-set-from-values c = omega (arith, there c.before.before c.loop-left-test.true)
 
-add_at : tie.Need-overflow-add-at invariant-loop decreases-loop
-add_at c = omega (arith, there c.before.before c.before.loop-test.true)
+add_at : tie.Need-overflow_add-at invariant-loop-left decreases-loop-left
+add_at c = omega (arith, there c.before.before c.loop-left-test.true)
 
-add-i : tie.Need-overflow-add-i invariant-loop decreases-loop
-add-i c = omega (arith, there c.before.before c.before.loop-test.true)
+add-i : tie.Need-overflow_add-i invariant-loop-left decreases-loop-left
+add-i c = omega (arith, there c.before.before c.loop-left-test.true)
 
-sub-left : tie.Need-overflow-sub-left invariant-loop decreases-loop
+sub-left : tie.Need-overflow_sub-left invariant-loop-left decreases-loop-left
 sub-left c = search rules
 
-loop-less : tie.Need-loop-smaller invariant-loop decreases-loop
+loop-less : tie.Need-loop-left-smaller invariant-loop-left decreases-loop-left
 loop-less c = search rules
 
-loop-again : tie.Need-loop-preserved invariant-loop decreases-loop
+loop-again : tie.Need-loop-left-preserved invariant-loop-left decreases-loop-left
 unfolding number width little_at
 loop-again c =
-    rw (to_z_pos w64 {n = c.u16-at.result} (omega arith), c.u16-at.ensures.0) (number_more u16 c.before.before.loop.invariant refl c.before.loop-test.true)
+    rw (to_z_pos w64 {n = c.u16_at.result} (omega arith), c.u16_at.ensures.0) (number_more u16 c.loop-left.invariant refl c.loop-left-test.true)
 
-same_length : tie.Need-same-length invariant-loop decreases-loop
+same_length : tie.Need-shape_of-values invariant-loop-left decreases-loop-left
 same_length c = search rules
 
-returns : tie.Need-returns invariant-loop decreases-loop
-returns c = number_end u16 c.before.loop.invariant (omega arith)
+returns : tie.Need-returns invariant-loop-left decreases-loop-left
+returns c = number_end u16 c.loop-left.invariant (omega arith)
 
-pub read-u16s-spec : {M : Type 1} → statement M
-read-u16s-spec =
+pub read_u16s_spec : {M : Type 1} → statement M
+read_u16s_spec =
     tie.close
     (tie.spec
-    invariant-loop
-    decreases-loop
+    invariant-loop-left
+    decreases-loop-left
     loop-holds
     u16-at-requires
     cast-values

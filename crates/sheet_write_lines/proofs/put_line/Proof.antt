@@ -11,27 +11,27 @@ use Rattle.sheet_lines.proofs.LineLaws.{line_count, length_count}
 use Rattle.sheet_write_lines.proofs.put_line.Statement.{statement}
 use Rattle.sheet_write_lines.proofs.put_line.Tie as tie
 
-put-number-requires : tie.Need-put-number-requires
+put-number-requires : tie.Need-put_number-at-requires
 put-number-requires c κs =
-    let a = c.before.before.args in
+    let a = c.args in
     omega (arith, length_count a.count a.v a.rank.now)
 
-put-verdict-requires : tie.Need-put-verdict-requires
+put-verdict-requires : tie.Need-put_verdict-requires
 put-verdict-requires c κs =
     let e = c.before.before.before in
-    let a = e.before.before.before.args in
-    omega (arith, e.put-number.ensures.end_is, e.put-number.auto.0, length-append (decimal a.count) (32 ∷ []), length_count a.count a.v a.rank.now)
+    let a = e.args in
+    omega (arith, e.put_number-at.ensures.end_is, e.put_number-at.auto.text, length-append (decimal a.count) (32 ∷ []), length_count a.count a.v a.rank.now)
 
-same_length : tie.Need-same-length
+same_length : tie.Need-shape_of-text
 same_length c = search rules
 
 returns : tie.Need-returns
 returns c =
     let e = c.before.before.before.before.before.before in
-    let a = e.before.before.before.args in
+    let a = e.args in
     rw (line_count a.count a.v a.rank.now)
     (puts_on (decimal a.count ++ (32 ∷ [])) (line (outcome_words a.v.outcome a.v.number a.v.place a.rank.now))
-    (simp length-append (omega (arith, length_count a.count a.v a.rank.now))) e.put-number.ensures c.before.before.put-verdict.ensures)
+    (simp length-append (omega (arith, length_count a.count a.v a.rank.now))) e.put_number-at.ensures c.put_verdict.ensures)
 
-pub put-line-spec : {M : Type 1} → statement M
-put-line-spec = tie.close (tie.spec put-number-requires put-verdict-requires same_length returns)
+pub put_line_spec : {M : Type 1} → statement M
+put_line_spec = tie.close (tie.spec put-number-requires put-verdict-requires same_length returns)

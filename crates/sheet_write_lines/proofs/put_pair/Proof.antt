@@ -9,25 +9,25 @@ use Rattle.sheet_lines.proofs.LineLaws.{line_pair, length_pair}
 use Rattle.sheet_write_lines.proofs.put_pair.Statement.{statement}
 use Rattle.sheet_write_lines.proofs.put_pair.Tie as tie
 
-put-number-requires : tie.Need-put-number-requires
-put-number-requires c κs = omega (arith, length_pair (decimal c.before.before.args.x) (decimal c.before.before.args.y))
+put-number-requires : tie.Need-put_number-at-requires
+put-number-requires c κs = omega (arith, length_pair (decimal c.args.x) (decimal c.args.y))
 
-put-number-requires-2 : tie.Need-put-number-requires-2
+put-number-requires-2 : tie.Need-put_number-requires
 put-number-requires-2 c κs =
     let e = c.before.before.before in
-    let a = e.before.before.before.args in
-    omega (arith, e.put-number.ensures.end_is, length-append (decimal a.x) (32 ∷ []), length_pair (decimal a.x) (decimal a.y), e.put-number.auto.0)
+    let a = e.args in
+    omega (arith, e.put_number-at.ensures.end_is, length-append (decimal a.x) (32 ∷ []), length_pair (decimal a.x) (decimal a.y), e.put_number-at.auto.text)
 
-same_length : tie.Need-same-length
+same_length : tie.Need-shape_of-text
 same_length c = search rules
 
 returns : tie.Need-returns
 returns c =
     let e = c.before.before.before.before.before.before in
-    let a = e.before.before.before.args in
+    let a = e.args in
     rw (line_pair (decimal a.x) (decimal a.y))
     (puts_on (decimal a.x ++ (32 ∷ [])) (decimal a.y ++ (10 ∷ [])) (omega (arith, length-append (decimal a.x) (32 ∷ []), length_pair (decimal a.x) (decimal a.y)))
-    e.put-number.ensures c.before.before.put-number2.ensures)
+    e.put_number-at.ensures c.put_number-at.ensures)
 
-pub put-pair-spec : {M : Type 1} → statement M
-put-pair-spec = tie.close (tie.spec put-number-requires put-number-requires-2 same_length returns)
+pub put_pair_spec : {M : Type 1} → statement M
+put_pair_spec = tie.close (tie.spec put-number-requires put-number-requires-2 same_length returns)

@@ -11,31 +11,28 @@ use Rattle.sheet_lines.proofs.LineLaws.{refused_word, line_refused}
 use Rattle.sheet_write_lines.proofs.put_refusal.Statement.{statement}
 use Rattle.sheet_write_lines.proofs.put_refusal.Tie as tie
 
-slice-aggregate-put-bytes : tie.Need-slice-aggregate-put-bytes
-slice-aggregate-put-bytes c = search rules
-
-put-bytes-requires : tie.Need-put-bytes-requires
+put-bytes-requires : tie.Need-put_bytes-at-requires
 put-bytes-requires c κs =
-    let a = c.before.before.before.args in
+    let a = c.args in
     omega (arith, ap length (line_refused (decimal a.number) (decimal a.fault)))
 
-put-pair-requires : tie.Need-put-pair-requires
+put-pair-requires : tie.Need-put_pair-requires
 put-pair-requires c κs =
     let e = c.before.before.before in
-    let a = e.before.before.before.before.args in
-    omega (arith, ap length (line_refused (decimal a.number) (decimal a.fault)), e.put-bytes.ensures.end_is, e.put-bytes.auto.0)
+    let a = e.args in
+    omega (arith, ap length (line_refused (decimal a.number) (decimal a.fault)), e.put_bytes-at.ensures.end_is, e.put_bytes-at.auto.text)
 
-same_length : tie.Need-same-length
+same_length : tie.Need-shape_of-text
 same_length c = search rules
 
 returns : tie.Need-returns
 returns c =
     let e = c.before.before.before.before.before.before in
-    let a = e.before.before.before.before.args in
+    let a = e.args in
     rw (line_refused (decimal a.number) (decimal a.fault))
-    (puts_on refused_word (line (decimal a.number ∷ decimal a.fault ∷ [])) (omega (arith, ap length (line_refused (decimal a.number) (decimal a.fault)))) e.put-bytes.ensures c.before.before.put-pair.ensures)
+    (puts_on refused_word (line (decimal a.number ∷ decimal a.fault ∷ [])) (omega (arith, ap length (line_refused (decimal a.number) (decimal a.fault)))) e.put_bytes-at.ensures c.put_pair.ensures)
 
-pub put-refusal-spec : {M : Type 1} → statement M
-put-refusal-spec =
+pub put_refusal_spec : {M : Type 1} → statement M
+put_refusal_spec =
     tie.close
-    (tie.spec slice-aggregate-put-bytes put-bytes-requires put-pair-requires same_length returns)
+    (tie.spec put-bytes-requires put-pair-requires same_length returns)

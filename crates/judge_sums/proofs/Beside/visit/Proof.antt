@@ -9,16 +9,16 @@ use Rattle.judge_sums.proofs.RunningLaws.{may_add, added}
 use Rattle.judge_sums.proofs.Beside.visit.Statement.{statement}
 use Rattle.judge_sums.proofs.Beside.visit.Tie as tie
 
-cast-plus : tie.Need-overflow-cast-plus
+cast-plus : tie.Need-overflow_cast-multiplier
 cast-plus c = search rules
 
-plus-requires : tie.Need-plus-requires
+plus-requires : tie.Need-plus-lifted-requires
 plus-requires c κs =
     let start = c.before.before.before in
     rw (back {z = start.args.self.lift} (omega arith))
     (may_add (pos start.args.multiplier) (pos 32768) 65535 32768 (omega arith) (omega arith) (omega arith) start.args.self.lift start.requires.0)
 
-add-right-requires : tie.Need-add-right-requires
+add-right-requires : tie.Need-add_right-reached-requires
 add-right-requires c κs =
     let start = c.before.before.before.before in
     (rw (back {z = start.args.self.right} (omega arith)) start.requires.1, start.requires.2, start.requires.3)
@@ -26,9 +26,9 @@ add-right-requires c κs =
 returns : tie.Need-returns
 returns c =
     let start = c.before.before.before.before.before.before.before in
-    let lifted = c.before.before.before.plus in
-    let reached = c.before.before.add_right in
-    rw (to_z-of_z (sfits_of lifted.type-inv.1.1.0.1), to_z-of_z (sfits_of reached.type-inv.1.1.0.1))
+    let lifted = c.plus-lifted in
+    let reached = c.add_right-reached in
+    rw (to_z-of_z (sfits_of lifted.type_inv.1.1.0.1), to_z-of_z (sfits_of reached.type_inv.1.1.0.1))
     (record {
       lift_adds =
           added (pos start.args.multiplier) (pos 32768) 65535 32768 (omega arith) (omega arith) (omega arith) refl refl
@@ -36,5 +36,5 @@ returns c =
       right_adds = rw (back {z = start.args.self.right} (omega arith)) at reached.ensures;
     })
 
-pub visit-spec : {M : Type 1} → statement M
-visit-spec = tie.close (tie.spec cast-plus plus-requires add-right-requires returns)
+pub visit_spec : {M : Type 1} → statement M
+visit_spec = tie.close (tie.spec cast-plus plus-requires add-right-requires returns)
