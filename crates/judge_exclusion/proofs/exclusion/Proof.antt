@@ -51,7 +51,7 @@ returns c =
     let a = l.args in
     rw
     (direction_told a.rows.now a.certificate.now a.start a.n a.m l.loop-i.i asked.loop-i-test.true
-    (rw l.loop-i.invariant.1 at (sym asked.row_holds-holds.ensures.0) ∙ c.if-not-holds.true) l.loop-i.invariant.2)
+    (rw l.loop-i.invariant.1 at (sym asked.row_holds-holds.ensures.0) ∙ not-true _ c.if-not-holds.true) l.loop-i.invariant.2)
 
 remember-requires : tie.Need-remember-late-requires invariant-loop-i decreases-loop-i
 remember-requires c κs = let l = c.before.before.before.before in omega (arith, l.requires.0.few, c.loop-i-test.true)
@@ -72,7 +72,7 @@ loop-again c =
     let a = asked.args in (
       omega arith,
       omega arith,
-      below_more _ l.i l.invariant.2 (rw l.invariant.1 at (sym asked.row_holds-holds.ensures.0) ∙ c.if-not-holds.false),
+      below_more _ l.i l.invariant.2 (rw l.invariant.1 at (sym asked.row_holds-holds.ensures.0) ∙ not-false _ c.if-not-holds.false),
       c.remember-late.ensures (meets_at a.rows.now a.certificate.now a.start a.n a.m) l.invariant.3 (rw l.invariant.1 at asked.row_holds-holds.ensures.1),
     )
 

@@ -16,75 +16,75 @@ use Rattle.judge_grade.proofs.DividedLaws.{each_divided, one_fails}
 use Rattle.judge_grade.proofs.all_divided.Statement.{statement}
 use Rattle.judge_grade.proofs.all_divided.Tie as tie
 
-abbrev invariant-loop : tie.invariant-loop
-invariant-loop certificate place count q j₀ j = (j ≤ count) × Throughout j (λ k. divides q (right_at certificate (place + 4 * k)) ≡ true)
+abbrev invariant-loop-j : tie.invariant-loop-j
+invariant-loop-j certificate place count q j₀ j = (j ≤ count) × Throughout j (λ k. divides q (right_at certificate (place + 4 * k)) ≡ true)
 
-abbrev decreases-loop : tie.decreases-loop
-decreases-loop certificate place count q j₀ j = count - j
+abbrev decreases-loop-j : tie.decreases-loop-j
+decreases-loop-j certificate place count q j₀ j = count - j
 
 -- ---- the places of this proof: the start, and the turn
 
-abbrev start : tie.At-loop invariant-loop decreases-loop → tie.Start invariant-loop decreases-loop
+abbrev start : tie.At-loop-j invariant-loop-j decreases-loop-j → tie.Start invariant-loop-j decreases-loop-j
 start c = c.before.before
 
-abbrev turn : tie.After-i32-at invariant-loop decreases-loop → tie.At-loop invariant-loop decreases-loop
+abbrev turn : tie.After-i32_at invariant-loop-j decreases-loop-j → tie.At-loop-j invariant-loop-j decreases-loop-j
 turn c = c.before.before
 
 -- the number of this turn
-read : (c : tie.After-i32-at invariant-loop decreases-loop) → let s = start (turn c) in
-    to_z w64 (of_z w64 c.i32-at.result) ≡ right_at s.args.certificate.now (s.args.place + 4 * (turn c).loop.j)
+read : (c : tie.After-i32_at invariant-loop-j decreases-loop-j) → let s = start (turn c) in
+    to_z w64 (of_z w64 c.i32_at.result) ≡ right_at s.args.certificate.now (s.args.place + 4 * (turn c).loop-j.j)
 unfolding right_at
-read c = back {z = c.i32-at.result} (omega (arith, c.i32-at.ensures.1)) ∙ c.i32-at.ensures.0
+read c = back {z = c.i32_at.result} (omega (arith, c.i32_at.ensures.1)) ∙ c.i32_at.ensures.0
 
-loop-holds : tie.Need-loop-init invariant-loop decreases-loop
+loop-holds : tie.Need-loop-j-init invariant-loop-j decreases-loop-j
 loop-holds c = (search rules, λ k below. absurd (omega arith))
 
-mul-i32-at : tie.Need-overflow-mul-i32-at invariant-loop decreases-loop
+mul-i32-at : tie.Need-overflow_mul-j invariant-loop-j decreases-loop-j
 mul-i32-at c = search rules
 
-add-i32-at : tie.Need-overflow-add-i32-at invariant-loop decreases-loop
+add-i32-at : tie.Need-overflow_add-place invariant-loop-j decreases-loop-j
 add-i32-at c = search rules
 
-i32-at-requires : tie.Need-i32-at-requires invariant-loop decreases-loop
+i32-at-requires : tie.Need-i32_at-requires invariant-loop-j decreases-loop-j
 i32-at-requires c κs = search rules
 
-divided-requires : tie.Need-divided-requires invariant-loop decreases-loop
-divided-requires c κs = (rw (back {z = c.i32-at.result} (omega (arith, c.i32-at.ensures.1))) c.i32-at.ensures.1, (start (turn c)).pre.3)
+divided-requires : tie.Need-divided-requires invariant-loop-j decreases-loop-j
+divided-requires c κs = (rw (back {z = c.i32_at.result} (omega (arith, c.i32_at.ensures.1))) c.i32_at.ensures.1, (start (turn c)).requires.3)
 
-returns : tie.Need-returns invariant-loop decreases-loop
+returns : tie.Need-returns-then-not-divided invariant-loop-j decreases-loop-j
 returns c =
     let asked = c.before in
     let t = turn asked.before in
     let a = (start t).args in
-    sym (one_fails a.q a.certificate.now a.place a.count t.loop.j asked.before.before.loop-test.true
-    (rw (read asked.before) at (sym asked.divided.ensures ∙ not-true asked.divided.result c.if1.true)))
+    sym (one_fails a.q a.certificate.now a.place a.count t.loop-j.j asked.loop-j-test.true
+    (rw (read asked.before) at (sym asked.divided.ensures ∙ c.if-not-divided.true)))
 
-add-j : tie.Need-overflow-add-j invariant-loop decreases-loop
+add-j : tie.Need-overflow_step-j invariant-loop-j decreases-loop-j
 add-j c = search rules
 
-loop-less : tie.Need-loop-smaller invariant-loop decreases-loop
+loop-less : tie.Need-loop-j-smaller invariant-loop-j decreases-loop-j
 loop-less c = search rules
 
-loop-again : tie.Need-loop-preserved invariant-loop decreases-loop
+loop-again : tie.Need-loop-j-preserved invariant-loop-j decreases-loop-j
 loop-again c =
     let asked = c.before in
     let t = turn asked.before in
-    let here = rw (read asked.before) at (sym asked.divided.ensures ∙ not-false asked.divided.result c.if1.false) in
-    (search rules, below_more _ t.loop.j t.loop.inv.1 here)
+    let here = rw (read asked.before) at (sym asked.divided.ensures ∙ c.if-not-divided.false) in
+    (search rules, below_more _ t.loop-j.j t.loop-j.invariant.1 here)
 
-returns-2 : tie.Need-returns-2 invariant-loop decreases-loop
+returns-2 : tie.Need-returns invariant-loop-j decreases-loop-j
 returns-2 c =
     let t = c.before in
     let a = (start t).args in
-    let end : t.loop.j ≡ a.count = omega arith in
-    sym (each_divided a.q a.certificate.now a.place a.count (rw end at t.loop.invariant.1))
+    let end : t.loop-j.j ≡ a.count = omega arith in
+    sym (each_divided a.q a.certificate.now a.place a.count (rw end at t.loop-j.invariant.1))
 
-pub all-divided-spec : {M : Type 1} → statement M
-all-divided-spec =
+pub all_divided_spec : {M : Type 1} → statement M
+all_divided_spec =
     tie.close
     (tie.spec
-    invariant-loop
-    decreases-loop
+    invariant-loop-j
+    decreases-loop-j
     loop-holds
     mul-i32-at
     add-i32-at

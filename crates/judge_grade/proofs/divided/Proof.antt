@@ -13,40 +13,40 @@ use Rattle.judge_grade.proofs.DividedLaws.{minus_above, minus_size}
 use Rattle.judge_grade.proofs.divided.Statement.{statement}
 use Rattle.judge_grade.proofs.divided.Tie as tie
 
-below : (c : tie.Then1) → c.before.args.z <ℤ pos 0
-below c = true_lt c.before.args.z (pos 0) (rw (to_z-of_z c.before.ranges.z) at c.if1.true)
+below : (c : tie.Then-z-lt0) → c.args.z <ℤ pos 0
+below c = true_lt c.args.z (pos 0) (rw (to_z-of_z c.ranges.z) at c.if-z-lt0.true)
 
-above : (c : tie.Else1) → pos 0 ≤ℤ c.before.args.z
-above c = false_lt c.before.args.z (pos 0) (rw (to_z-of_z c.before.ranges.z) at c.if1.false)
+above : (c : tie.Else-z-lt0) → pos 0 ≤ℤ c.args.z
+above c = false_lt c.args.z (pos 0) (rw (to_z-of_z c.ranges.z) at c.if-z-lt0.false)
 
-held : (c : tie.Then1) → SFits w64 (pos 0 -ℤ c.before.args.z)
-held c = minus_fits c.before.args.z (omega (arith, c.before.requires.0))
+held : (c : tie.Then-z-lt0) → SFits w64 (pos 0 -ℤ c.args.z)
+held c = minus_fits c.args.z (omega (arith, c.requires.0))
 
-sub-result : tie.Need-overflow-sub-result
-sub-result c = rw (to_z-of_z c.before.ranges.z) (held c)
+sub-result : tie.Need-overflow_sub-result
+sub-result c = rw (to_z-of_z c.ranges.z) (held c)
 
-cast-result : tie.Need-overflow-cast-result
+cast-result : tie.Need-overflow_cast-result
 cast-result c =
-    let z = c.before.args.z in
-    rw (to_z-of_z c.before.ranges.z, to_z-of_z (held c))
-    (yes_non_neg (minus_above z (below c)), record { fits = omega (arith, c.before.requires.0, minus_size z) })
+    let z = c.args.z in
+    rw (to_z-of_z c.ranges.z, to_z-of_z (held c))
+    (yes_non_neg (minus_above z (below c)), record { fits = omega (arith, c.requires.0, minus_size z) })
 
-rem-result : tie.Need-nonzero-rem-result
+rem-result : tie.Need-nonzero_rem-result
 rem-result c = search rules
 
-returns : tie.Need-returns
+returns : tie.Need-returns-then-z-lt0
 unfolding divides
-returns c = rw (to_z-of_z c.before.ranges.z, to_z-of_z (held c), minus_size c.before.args.z)
+returns c = rw (to_z-of_z c.ranges.z, to_z-of_z (held c), minus_size c.args.z)
 
-cast-result-2 : tie.Need-overflow-cast-result-2
-cast-result-2 c = rw (to_z-of_z c.before.ranges.z) (yes_non_neg (above c), record { fits = omega (arith, c.before.requires.0) })
+cast-result-2 : tie.Need-overflow_cast-result-2
+cast-result-2 c = rw (to_z-of_z c.ranges.z) (yes_non_neg (above c), record { fits = omega (arith, c.requires.0) })
 
-rem-result-2 : tie.Need-nonzero-rem-result-2
+rem-result-2 : tie.Need-nonzero_rem-result-2
 rem-result-2 c = search rules
 
-returns-2 : tie.Need-returns-2
+returns-2 : tie.Need-returns
 unfolding divides
-returns-2 c = rw (to_z-of_z c.before.ranges.z)
+returns-2 c = rw (to_z-of_z c.ranges.z)
 
-pub divided-spec : {M : Type 1} → statement M
-divided-spec = tie.close (tie.spec sub-result cast-result rem-result returns cast-result-2 rem-result-2 returns-2)
+pub divided_spec : {M : Type 1} → statement M
+divided_spec = tie.close (tie.spec sub-result cast-result rem-result returns cast-result-2 rem-result-2 returns-2)

@@ -11,10 +11,10 @@ use borrow.Author.Rules.{rules, sfits_of}
 use Rattle.judge_longer.proofs.and_times.Statement.{statement}
 use Rattle.judge_longer.proofs.and_times.Tie as tie
 
-cast-plus : tie.Need-overflow-cast-plus
+cast-plus : tie.Need-overflow_cast-k
 cast-plus c = search rules
 
-plus-requires : tie.Need-plus-requires
+plus-requires : tie.Need-plus-more-requires
 plus-requires c κs =
     let a = c.args in
     rw (to_z-of_z c.ranges.total)
@@ -25,13 +25,13 @@ returns c =
     let s = c.before.before in
     let a = s.args in
     let term = pos a.k *ℤ a.z in
-    let sum = c.before.plus.result.sum in
+    let sum = c.plus-more.result.sum in
     let more : Adds (65535 * 2147483648) term a.total sum =
     added (pos a.k) a.z 65535 2147483648 (omega (arith, s.requires.1)) s.requires.2 (omega arith) refl refl
-    (rw (to_z-of_z s.ranges.total) at c.before.plus.ensures)
+    (rw (to_z-of_z s.ranges.total) at c.plus-more.ensures)
     in
-    rw (to_z-of_z (sfits_of c.before.plus.type-inv.1.1.0.1))
+    rw (to_z-of_z (sfits_of c.plus-more.type_inv.1.1.0.1))
     (more.is, rw more.is (omega (arith, abs_add a.total term, more.small, s.requires.0)))
 
-pub and-times-spec : {M : Type 1} → statement M
-and-times-spec = tie.close (tie.spec cast-plus plus-requires returns)
+pub and_times_spec : {M : Type 1} → statement M
+and_times_spec = tie.close (tie.spec cast-plus plus-requires returns)

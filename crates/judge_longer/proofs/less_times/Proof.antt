@@ -21,13 +21,13 @@ minus-small z h = rw (+ℤ_idl (neg_ℤ z)) (omega (arith, abs_neg z))
 less : (s k z : ℤ) → s +ℤ k *ℤ (pos 0 -ℤ z) ≡ s -ℤ k *ℤ z
 less s k z = solve (v s ⊕ v k ⊗ (v (pos 0) ⊝ v z)) (v s ⊝ v k ⊗ v z) (omega arith)
 
-cast-plus : tie.Need-overflow-cast-plus
+cast-plus : tie.Need-overflow_cast-k
 cast-plus c = search rules
 
-sub-plus : tie.Need-overflow-sub-plus
+sub-plus : tie.Need-overflow_sub-z
 sub-plus c = rw (to_z-of_z c.ranges.z) (minus_fits c.args.z (omega (arith, c.requires.2)))
 
-plus-requires : tie.Need-plus-requires
+plus-requires : tie.Need-plus-less-requires
 plus-requires c κs =
     let a = c.args in
     rw (to_z-of_z c.ranges.z, to_z-of_z c.ranges.total)
@@ -38,13 +38,13 @@ returns c =
     let s = c.before.before in
     let a = s.args in
     let term = pos a.k *ℤ (pos 0 -ℤ a.z) in
-    let sum = c.before.plus.result.sum in
+    let sum = c.plus-less.result.sum in
     let more : Adds (65535 * 32768) term a.total sum =
     added (pos a.k) (pos 0 -ℤ a.z) 65535 32768 (omega (arith, s.requires.1)) (minus-small a.z s.requires.2) (omega arith) refl refl
-    (rw (to_z-of_z s.ranges.z, to_z-of_z s.ranges.total) at c.before.plus.ensures)
+    (rw (to_z-of_z s.ranges.z, to_z-of_z s.ranges.total) at c.plus-less.ensures)
     in
-    rw (to_z-of_z (sfits_of c.before.plus.type-inv.1.1.0.1))
+    rw (to_z-of_z (sfits_of c.plus-less.type_inv.1.1.0.1))
     (more.is ∙ less a.total (pos a.k) a.z, rw more.is (omega (arith, abs_add a.total term, more.small)))
 
-pub less-times-spec : {M : Type 1} → statement M
-less-times-spec = tie.close (tie.spec cast-plus sub-plus plus-requires returns)
+pub less_times_spec : {M : Type 1} → statement M
+less_times_spec = tie.close (tie.spec cast-plus sub-plus plus-requires returns)

@@ -26,72 +26,72 @@ use Rattle.judge_longer.proofs.longer_ranking.Tie as tie
 
 -- ---- the places of this proof: the start, the rows added, the added row taken under Y and under Z, its right side under each
 
-abbrev start : tie.After-add-rows → tie.Start
+abbrev start : tie.After-add_rows-beside → tie.Start
 start c = c.before.before.before.before.before
 
-module _ (c : tie.After-add-rows) where
+module _ (c : tie.After-add_rows-beside) where
   few : (start c).args.m ≤ 65
   few = omega (arith, (start c).requires.1)
 
-  y-modest : Modest c.add-rows.result.y.lift
-  y-modest = lift_modest (start c).args.m _ c.add-rows.result.y.lift few c.add-rows.ensures.4.lift_sum
+  y-modest : Modest c.add_rows-beside.result.y.lift
+  y-modest = lift_modest (start c).args.m _ c.add_rows-beside.result.y.lift few c.add_rows-beside.ensures.4.lift_sum
 
-  z-modest : Modest c.add-rows.result.z.lift
-  z-modest = lift_modest (start c).args.m _ c.add-rows.result.z.lift few c.add-rows.ensures.5.lift_sum
+  z-modest : Modest c.add_rows-beside.result.z.lift
+  z-modest = lift_modest (start c).args.m _ c.add_rows-beside.result.z.lift few c.add_rows-beside.ensures.5.lift_sum
 
-  y-right : nat_abs c.add-rows.result.y.right ≤ 9147797156659200
-  y-right = right_small (start c).args.m _ c.add-rows.result.y.right few c.add-rows.ensures.4.right_sum
+  y-right : nat_abs c.add_rows-beside.result.y.right ≤ 9147797156659200
+  y-right = right_small (start c).args.m _ c.add_rows-beside.result.y.right few c.add_rows-beside.ensures.4.right_sum
 
-  z-right : nat_abs c.add-rows.result.z.right ≤ 9147797156659200
-  z-right = right_small (start c).args.m _ c.add-rows.result.z.right few c.add-rows.ensures.5.right_sum
+  z-right : nat_abs c.add_rows-beside.result.z.right ≤ 9147797156659200
+  z-right = right_small (start c).args.m _ c.add_rows-beside.result.z.right few c.add_rows-beside.ensures.5.right_sum
 
-module _ (c : tie.After-struct-told4) where
-  abbrev reached-z : tie.After-and-times2
+module _ (c : tie.After-struct_told-4-1) where
+  abbrev reached-z : tie.After-and_times-zb
   reached-z = c.before.before.before.before
 
-  abbrev reached-y : tie.After-and-times
+  abbrev reached-y : tie.After-and_times-yb
   reached-y = reached-z.before.before
 
-  abbrev under_z : tie.After-take-row2
+  abbrev under_z : tie.After-take_row-2
   under_z = reached-y.before.before.before
 
-  abbrev under_y : tie.After-take-row
+  abbrev under_y : tie.After-take_row
   under_y = under_z.before.before.before
 
-  abbrev rows : tie.After-add-rows
+  abbrev rows : tie.After-add_rows-beside
   rows = under_y.before.before.before.before.before.before.before.before
 
   abbrev s : tie.Start
   s = start rows
 
-  ys-modest : AllModest (2 * s.args.n) under_y.take_row.last.0
+  ys-modest : AllModest (2 * s.args.n) under_y.take_row.new.sums
   ys-modest =
-      taken_modest s.args.rows.now s.args.certificate.now s.args.start s.args.n s.args.m s.args.place s.args.s under_y.before.before.before.u16-at.result
-      rows.add-rows.last.0 under_y.take_row.last.0 s.pre.1 rows.add-rows.ensures.0 under_y.take_row.ensures
+      taken_modest s.args.rows.now s.args.certificate.now s.args.start s.args.n s.args.m s.args.place s.args.s under_y.u16_at-y_last.result
+      rows.add_rows-beside.new.0 under_y.take_row.new.0 s.requires.1 rows.add_rows-beside.ensures.0 under_y.take_row.ensures
 
-  zs-modest : AllModest (2 * s.args.n) under_z.take-row2.last.0
+  zs-modest : AllModest (2 * s.args.n) under_z.take_row-2.new.sums
   zs-modest =
       taken_modest s.args.rows.now s.args.certificate.now s.args.start s.args.n s.args.m (s.args.place + 2 * (s.args.m + 1)) s.args.s
-      under_z.before.before.before.before.before.u16-at2.result rows.add-rows.last.1.0 under_z.take-row2.last.0 s.pre.1 rows.add-rows.ensures.1 under_z.take-row2.ensures
+      under_z.u16_at-z_last.result rows.add_rows-beside.new.1.0 under_z.take_row-2.new.0 s.requires.1 rows.add_rows-beside.ensures.1 under_z.take_row-2.ensures
 
 -- ---- the needs
 
-add-z : tie.Need-overflow-add-z
+add-z : tie.Need-overflow_add-z
 add-z c = search rules
 
-mul-z : tie.Need-overflow-mul-z
+mul-z : tie.Need-overflow_mul-z
 mul-z c = search rules
 
-add-z-2 : tie.Need-overflow-add-z-2
+add-z-2 : tie.Need-overflow_add-z-2
 add-z-2 c = search rules
 
-slice-aggregate-add-rows : tie.Need-slice-aggregate-add-rows
+slice-aggregate-add-rows : tie.Need-slice_bounds-add_rows-end
 slice-aggregate-add-rows c = search rules
 
-slice-aggregate-add-rows-2 : tie.Need-slice-aggregate-add-rows-2
+slice-aggregate-add-rows-2 : tie.Need-slice_bounds-add_rows-end-2
 slice-aggregate-add-rows-2 c = search rules
 
-add-rows-requires : tie.Need-add-rows-requires
+add-rows-requires : tie.Need-add_rows-beside-requires
 add-rows-requires c κs =
     let start = c.before.before.before.before in
     let a = start.args in
@@ -99,85 +99,85 @@ add-rows-requires c κs =
     let room = start.requires.5 in
     (wide, wide, zeros (2 * a.n) wide, zeros (2 * a.n) wide, start.requires.0, omega (arith, room), omega (arith, room))
 
-mul-u16-at : tie.Need-overflow-mul-u16-at
+mul-u16-at : tie.Need-overflow_mul-m
 mul-u16-at c = search rules
 
-add-u16-at : tie.Need-overflow-add-u16-at
+add-u16-at : tie.Need-overflow_add-place
 add-u16-at c = search rules
 
-u16-at-requires : tie.Need-u16-at-requires
+u16-at-requires : tie.Need-u16_at-y_last-requires
 u16-at-requires c κs = search rules
 
-mul-u16-at-2 : tie.Need-overflow-mul-u16-at-2
+mul-u16-at-2 : tie.Need-overflow_mul-m-2
 mul-u16-at-2 c = search rules
 
-add-u16-at-2 : tie.Need-overflow-add-u16-at-2
+add-u16-at-2 : tie.Need-overflow_add-z-3
 add-u16-at-2 c = search rules
 
-u16-at-requires-2 : tie.Need-u16-at-requires-2
+u16-at-requires-2 : tie.Need-u16_at-z_last-requires
 u16-at-requires-2 c κs = search rules
 
-slice-aggregate-take-row : tie.Need-slice-aggregate-take-row
+slice-aggregate-take-row : tie.Need-slice_bounds-take_row-end
 slice-aggregate-take-row c = search rules
 
-take-row-requires : tie.Need-take-row-requires
+take-row-requires : tie.Need-take_row-requires
 take-row-requires c κs =
     let rows = c.before.before.before.before.before.before.before in
     let s = start rows in
     let a = s.args in
-    let few : a.m < 16384 = omega (arith, s.pre.1) in
-    let ys = rows.add-rows.new.0 in (
-      omega (arith, s.pre.2, rows.add-rows.auto.0),
-      λ k below. sums_modest a.certificate.now a.place a.rows.now a.start a.n a.m ys rows.add-rows.ensures.0 few k (omega arith),
-      c.before.before.u16-at.ensures.1,
-      s.pre.4,
-      s.pre.2,
-      omega (arith, s.pre.6),
+    let few : a.m < 16384 = omega (arith, s.requires.1) in
+    let ys = rows.add_rows-beside.new.ys in (
+      omega (arith, s.requires.2, rows.add_rows-beside.auto.0),
+      λ k below. sums_modest a.certificate.now a.place a.rows.now a.start a.n a.m ys rows.add_rows-beside.ensures.0 few k (omega arith),
+      c.u16_at-y_last.ensures.1,
+      s.requires.4,
+      s.requires.2,
+      omega (arith, s.requires.6),
     )
 
-slice-aggregate-take-row-2 : tie.Need-slice-aggregate-take-row-2
+slice-aggregate-take-row-2 : tie.Need-slice_bounds-take_row-end-2
 slice-aggregate-take-row-2 c = search rules
 
-take-row-requires-2 : tie.Need-take-row-requires-2
+take-row-requires-2 : tie.Need-take_row-requires-2
 take-row-requires-2 c κs =
     let rows = c.before.before.before.before.before.before.before.before.before.before in
     let s = start rows in
     let a = s.args in
-    let few : a.m < 16384 = omega (arith, s.pre.1) in
-    let zs = rows.add-rows.new.1.0 in
+    let few : a.m < 16384 = omega (arith, s.requires.1) in
+    let zs = rows.add_rows-beside.new.zs in
     let z = a.place + 2 * (a.m + 1) in (
-      omega (arith, s.pre.2, rows.add-rows.auto.1.0),
-      λ k below. sums_modest a.certificate.now z a.rows.now a.start a.n a.m zs rows.add-rows.ensures.1 few k (omega arith),
-      c.before.before.before.before.u16-at2.ensures.1,
-      s.pre.4,
-      s.pre.2,
-      omega (arith, s.pre.6),
+      omega (arith, s.requires.2, rows.add_rows-beside.auto.1.0),
+      λ k below. sums_modest a.certificate.now z a.rows.now a.start a.n a.m zs rows.add_rows-beside.ensures.1 few k (omega arith),
+      c.u16_at-z_last.ensures.1,
+      s.requires.4,
+      s.requires.2,
+      omega (arith, s.requires.6),
     )
 
-and-times-requires : tie.Need-and-times-requires
+and-times-requires : tie.Need-and_times-yb-requires
 and-times-requires c κs =
     let rows = c.before.before.before.before.before.before.before.before.before.before.before.before.before in
     let s = start rows in
-    (rw (back {z = rows.add-rows.result.y.right} (omega (arith, y-right rows))) (y-right rows), c.before.before.before.before.before.before.before.before.u16-at.ensures.1, rw (to_z-of_z s.fits.right) s.pre.7)
+    (rw (back {z = rows.add_rows-beside.result.y.right} (omega (arith, y-right rows))) (y-right rows), c.u16_at-y_last.ensures.1, rw (to_z-of_z s.ranges.right) s.requires.7)
 
-and-times-requires-2 : tie.Need-and-times-requires-2
+and-times-requires-2 : tie.Need-and_times-zb-requires
 and-times-requires-2 c κs =
     let rows = c.before.before.before.before.before.before.before.before.before.before.before.before.before.before.before in
     let s = start rows in
-    (rw (back {z = rows.add-rows.result.z.right} (omega (arith, z-right rows))) (z-right rows), c.before.before.before.before.before.before.before.before.before.u16-at2.ensures.1, rw (to_z-of_z s.fits.right) s.pre.7)
+    (rw (back {z = rows.add_rows-beside.result.z.right} (omega (arith, z-right rows))) (z-right rows), c.u16_at-z_last.ensures.1, rw (to_z-of_z s.ranges.right) s.requires.7)
 
-slice-aggregate-columns-fault : tie.Need-slice-aggregate-columns-fault
+slice-aggregate-columns-fault : tie.Need-slice_bounds-columns_fault-end
 slice-aggregate-columns-fault c = search rules
 
-slice-aggregate-columns-fault-2 : tie.Need-slice-aggregate-columns-fault-2
+slice-aggregate-columns-fault-2 : tie.Need-slice_bounds-columns_fault-end-2
 slice-aggregate-columns-fault-2 c = search rules
 
-columns-fault-requires : tie.Need-columns-fault-requires
+columns-fault-requires : tie.Need-columns_fault-fault-requires
 columns-fault-requires c κs =
     let p = (s c).requires in
-    let sums = (rows c).add-rows in (
-      omega (arith, p.2, sums.kept.0, (under_y c).take_row.auto.0),
-      omega (arith, p.2, sums.kept.1.0, (under_z c).take-row2.auto.0),
+    let sums = (rows c).add_rows-beside in (
+      omega (arith, p.2, sums.auto.ys, (under_y c).take_row.auto.ys),
+      omega (arith, p.2, sums.auto.zs, (under_z c).take_row-2.auto.ys),
       p.2,
       ys-modest c,
       zs-modest c,
@@ -185,84 +185,84 @@ columns-fault-requires c κs =
       passed_modest sums.result.z.lift (z-modest (rows c)),
     )
 
-slice-aggregate-by-totals : tie.Need-slice-aggregate-by-totals
+slice-aggregate-by-totals : tie.Need-slice_bounds-by_totals-end
 slice-aggregate-by-totals c = search rules
 
-by-totals-requires : tie.Need-by-totals-requires
+by-totals-requires : tie.Need-by_totals-requires
 by-totals-requires c κs =
     let asked = c.before.before.before.before in
     let p = (s asked).requires in
-    let sums = (rows asked).add-rows in (
-      omega (arith, p.2, sums.kept.1.0, (under_z asked).take-row2.auto.0),
+    let sums = (rows asked).add_rows-beside in (
+      omega (arith, p.2, sums.auto.zs, (under_z asked).take_row-2.auto.ys),
       p.2,
       zs-modest asked,
       passed_modest sums.result.z.lift (z-modest (rows asked)),
-      passed_grows (reached-y asked).and-times.result (reached-y asked).and-times.ensures.1,
-      passed_grows (reached-z asked).and-times2.result (reached-z asked).and-times2.ensures.1,
+      passed_grows (reached-y asked).and_times-yb.result (reached-y asked).and_times-yb.ensures.1,
+      passed_grows (reached-z asked).and_times-zb.result (reached-z asked).and_times-zb.ensures.1,
       p.8,
     )
 
 -- the right sides and the added row's are those of the longer loop
-module _ (c : tie.After-struct-told4) where
+module _ (c : tie.After-struct_told-4-1) where
   abbrev longer : List Row
   longer = (longer_held (s c).args.rows.now (s c).args.start (s c).args.n (s c).args.m (s c).args.certificate.now (s c).args.s (s c).args.right).rows
 
-  over-y : (reached-y c).and-times.result ≡ sum (ranking_held (s c).args.certificate.now (s c).args.place ((s c).args.m + 1)).Y b longer
+  over-y : (reached-y c).and_times-yb.result ≡ sum (ranking_held (s c).args.certificate.now (s c).args.place ((s c).args.m + 1)).Y b longer
   unfolding ranking_held
   over-y =
       let args = (s c).args in
-      let last = (under_y c).before.before.before.u16-at in
-      let total = (rows c).add-rows.result.y.right in
-      rights_longer args.rows.now args.certificate.now args.start args.n args.m args.place args.s args.right last.result total (reached-y c).and-times.result
-      last.ensures.0 (rows c).add-rows.ensures.4.right_sum
-      (rw (to_z-of_z (s c).ranges.right, back {z = total} (omega (arith, y-right (rows c)))) at (reached-y c).and-times.ensures.0)
+      let last = (under_y c).u16_at-y_last in
+      let total = (rows c).add_rows-beside.result.y.right in
+      rights_longer args.rows.now args.certificate.now args.start args.n args.m args.place args.s args.right last.result total (reached-y c).and_times-yb.result
+      last.ensures.0 (rows c).add_rows-beside.ensures.4.right_sum
+      (rw (to_z-of_z (s c).ranges.right, back {z = total} (omega (arith, y-right (rows c)))) at (reached-y c).and_times-yb.ensures.0)
 
-  over-z : (reached-z c).and-times2.result ≡ sum (ranking_held (s c).args.certificate.now (s c).args.place ((s c).args.m + 1)).Z b longer
+  over-z : (reached-z c).and_times-zb.result ≡ sum (ranking_held (s c).args.certificate.now (s c).args.place ((s c).args.m + 1)).Z b longer
   unfolding ranking_held
   over-z =
       let args = (s c).args in
       let z = args.place + 2 * (args.m + 1) in
-      let last = (under_z c).before.before.before.before.before.u16-at2 in
-      let total = (rows c).add-rows.result.z.right in
-      rights_longer args.rows.now args.certificate.now args.start args.n args.m z args.s args.right last.result total (reached-z c).and-times2.result
-      last.ensures.0 (rows c).add-rows.ensures.5.right_sum
-      (rw (to_z-of_z (s c).ranges.right, back {z = total} (omega (arith, z-right (rows c)))) at (reached-z c).and-times2.ensures.0)
+      let last = (under_z c).u16_at-z_last in
+      let total = (rows c).add_rows-beside.result.z.right in
+      rights_longer args.rows.now args.certificate.now args.start args.n args.m z args.s args.right last.result total (reached-z c).and_times-zb.result
+      last.ensures.0 (rows c).add_rows-beside.ensures.5.right_sum
+      (rw (to_z-of_z (s c).ranges.right, back {z = total} (omega (arith, z-right (rows c)))) at (reached-z c).and_times-zb.ensures.0)
 
-same_length : tie.Need-same-length
+same_length : tie.Need-shape_of-rank
 same_length c = search rules
 
 returns : tie.Need-returns
 unfolding longer_held loop_held
 returns c =
-    let called = c.before.by-totals in
+    let called = c.by_totals in
     let first = c.before.before.before.before.before in
     let asked = first.before in
     let a = (s asked).args in
-    let sums = (rows asked).add-rows in
+    let sums = (rows asked).add_rows-beside in
     let y = under_y asked in
     let z-row = under_z asked in
     let lift_y = sums.result.y.lift in
     let lift_z = sums.result.z.lift in
     let passed-y = to_z-of_z {w = w64} {z = lift_y} (modest_fits (y-modest (rows asked))) in
     let passed-z = to_z-of_z {w = w64} {z = lift_z} (modest_fits (z-modest (rows asked))) in
-    let yb = (reached-y asked).and-times in
-    let zb = (reached-z asked).and-times2 in
-    let ys = y.take_row.last.0 in
-    let zs = z-row.take-row2.last.0 in
+    let yb = (reached-y asked).and_times-yb in
+    let zb = (reached-z asked).and_times-zb in
+    let ys = y.take_row.new.sums in
+    let zs = z-row.take_row-2.new.0 in
     let told =
     rw (passed-z, to_z-of_z {w = w64} {z = yb.result} (grown_fits yb.ensures.1), to_z-of_z {w = w64} {z = zb.result} (grown_fits zb.ensures.1)) at called.ensures
-    ys lift_y (rw (passed-y, passed-z) at first.columns-fault.ensures) in
+    ys lift_y (rw (passed-y, passed-z) at first.columns_fault-fault.ensures) in
     ranked_by (longer_held a.rows.now a.start a.n a.m a.certificate.now a.s a.right) (ranking_held a.certificate.now a.place (a.m + 1))
     ys lift_y zs lift_z
-    (totalled_longer a.rows.now a.certificate.now a.start a.n a.m a.place a.s a.right sums.last.0 ys lift_y sums.last.1.0 zs lift_z
-    y.before.before.before.u16-at.result z-row.before.before.before.before.before.u16-at2.result (few (rows asked))
-    sums.ensures.0 y.take_row.ensures sums.ensures.4.lift_sum sums.ensures.1 z-row.take-row2.ensures sums.ensures.5.lift_sum
-    y.before.before.before.u16-at.ensures.0 z-row.before.before.before.before.before.u16-at2.ensures.0)
+    (totalled_longer a.rows.now a.certificate.now a.start a.n a.m a.place a.s a.right sums.new.0 ys lift_y sums.new.1.0 zs lift_z
+    y.u16_at-y_last.result z-row.u16_at-z_last.result (few (rows asked))
+    sums.ensures.0 y.take_row.ensures sums.ensures.4.lift_sum sums.ensures.1 z-row.take_row-2.ensures sums.ensures.5.lift_sum
+    y.u16_at-y_last.ensures.0 z-row.u16_at-z_last.ensures.0)
     yb.result zb.result called.result a.rank.now called.new.1.1.1.1.1.1.0
     (over-y asked) (over-z asked) told.0 told.1
 
-pub longer-ranking-spec : {M : Type 1} → statement M
-longer-ranking-spec =
+pub longer_ranking_spec : {M : Type 1} → statement M
+longer_ranking_spec =
     tie.close
     (tie.spec
     add-z

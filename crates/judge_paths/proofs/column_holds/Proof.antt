@@ -14,13 +14,13 @@ use Rattle.judge_paths.specs.PathByPlaces.{column_held}
 use Rattle.judge_paths.proofs.column_holds.Statement.{statement}
 use Rattle.judge_paths.proofs.column_holds.Tie as tie
 
-mul-i32-at : tie.Need-overflow-mul-i32-at
+mul-i32-at : tie.Need-overflow_mul-j
 mul-i32-at c = search rules
 
-add-i32-at : tie.Need-overflow-add-i32-at
+add-i32-at : tie.Need-overflow_add-r
 add-i32-at c = search rules
 
-i32-at-requires : tie.Need-i32-at-requires
+i32-at-requires : tie.Need-i32_at-entry-requires
 i32-at-requires c κs = search rules
 
 unlifted-requires : tie.Need-unlifted-requires
@@ -31,7 +31,7 @@ unlifted-requires c κs =
 minus-requires : tie.Need-minus-requires
 minus-requires c κs = search rules
 
-add-unlifted : tie.Need-overflow-add-unlifted
+add-unlifted : tie.Need-overflow_add-n
 add-unlifted c = search rules
 
 unlifted-requires-2 : tie.Need-unlifted-requires-2
@@ -45,20 +45,20 @@ times-requires c κs = search rules
 returns : tie.Need-returns
 unfolding column_held right_at
 returns c =
-    let then = c.before.unlifted2 in
-    let opposite = c.before.before.minus in
-    let over = c.before.before.before.unlifted in
-    let entry = c.before.before.before.before.i32-at in
+    let then = c.unlifted-2 in
+    let opposite = c.minus in
+    let over = c.unlifted in
+    let entry = c.i32_at-entry in
     let s = c.before.before.before.before.before.before in
     let passed = to_z-of_z (fits_abs {z = entry.result} (omega (arith, entry.ensures.1))) in
     ap₂ (λ x y. x && y)
-    (bits_same {a = over.result} {b = opposite.result} (sfits_of over.type-inv) (sfits_of opposite.type-inv)
+    (bits_same {a = over.result} {b = opposite.result} (sfits_of over.type_inv) (sfits_of opposite.type_inv)
     ∙ ap₂ same_z (rw (to_z-of_z s.ranges.lift) at over.ensures.0) (rw passed at opposite.ensures.0 ∙ ap neg_ℤ entry.ensures.0))
-    (bits_same {a = then.result} {b = c.times.result} (sfits_of then.type-inv) (sfits_of c.times.type-inv)
+    (bits_same {a = then.result} {b = c.times.result} (sfits_of then.type_inv) (sfits_of c.times.type_inv)
     ∙ ap₂ same_z (rw (to_z-of_z s.ranges.lift) at then.ensures.0) (rw passed at c.times.ensures.0 ∙ ap (λ z. pos s.args.next *ℤ z) entry.ensures.0))
 
-pub column-holds-spec : {M : Type 1} → statement M
-column-holds-spec =
+pub column_holds_spec : {M : Type 1} → statement M
+column_holds_spec =
     tie.close
     (tie.spec
     mul-i32-at

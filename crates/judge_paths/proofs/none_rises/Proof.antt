@@ -13,84 +13,84 @@ use Rattle.judge_paths.proofs.PathPlaces.{earlier_in, lists_fit}
 use Rattle.judge_paths.proofs.none_rises.Statement.{statement}
 use Rattle.judge_paths.proofs.none_rises.Tie as tie
 
-abbrev invariant-loop : tie.invariant-loop
-invariant-loop rows row n m certificate place first earlier lists k₀ k-end k =
+abbrev invariant-loop-k : tie.invariant-loop-k
+invariant-loop-k rows row n m certificate place first earlier lists k₀ k-end k =
     (k ≤ k-end) × ((i : ℕ) → i < 2 * k → weighs n (staying_by rows row n m certificate lists first i) ≡ true)
 
-abbrev decreases-loop : tie.decreases-loop
-decreases-loop rows row n m certificate place first earlier lists k₀ k-end k = k-end - k
+abbrev decreases-loop-k : tie.decreases-loop-k
+decreases-loop-k rows row n m certificate place first earlier lists k₀ k-end k = k-end - k
 
-mul-lists : tie.Need-overflow-mul-lists invariant-loop decreases-loop
+mul-lists : tie.Need-overflow_mul-lists invariant-loop-k decreases-loop-k
 mul-lists c = search rules
 
-add-lists : tie.Need-overflow-add-lists invariant-loop decreases-loop
+add-lists : tie.Need-overflow_add-lists invariant-loop-k decreases-loop-k
 add-lists c =
     let s = c.before.before in
     let a = s.args in
     let fit = lists_fit a.rows.now a.row a.n a.m a.certificate.now a.place a.first a.earlier s.requires in
     search rules
 
-loop-holds : tie.Need-loop-init invariant-loop decreases-loop
+loop-holds : tie.Need-loop-k-init invariant-loop-k decreases-loop-k
 loop-holds c = (search rules, λ i below. absurd (omega arith))
 
-mul-stay-two : tie.Need-overflow-mul-stay-two invariant-loop decreases-loop
+mul-stay-two : tie.Need-overflow_mul-k invariant-loop-k decreases-loop-k
 mul-stay-two c = search rules
 
-stay-two-requires : tie.Need-stay-two-requires invariant-loop decreases-loop
+stay-two-requires : tie.Need-stay_two-requires invariant-loop-k decreases-loop-k
 stay-two-requires c κs =
-    let k = c.before.loop.k in
+    let k = c.loop-k.k in
     let s = c.before.before.before.before in
     let a = s.args in
     let earlier = earlier_in a.rows.now a.row a.n a.m a.certificate.now a.place a.first a.earlier s.requires in
-    (earlier (2 * k) (omega (arith, c.loop-test.true)), earlier (2 * k + 1) (omega (arith, c.loop-test.true)), omega (arith, c.loop-test.true, s.requires.shallow))
+    (earlier (2 * k) (omega (arith, c.loop-k-test.true)), earlier (2 * k + 1) (omega (arith, c.loop-k-test.true)), omega (arith, c.loop-k-test.true, s.requires.shallow))
 
-returns : tie.Need-returns invariant-loop decreases-loop
+returns : tie.Need-returns-then-not-stay_two invariant-loop-k decreases-loop-k
 returns c =
     let called = c.before in
     let turn = called.before.before in
     let s = turn.before.before.before in
-    sym (two_fail _ s.args.earlier turn.loop.k (omega (arith, called.before.loop-test.true))
-    (sym called.stay-two.ensures ∙ not-true called.stay-two.result c.if1.true))
+    sym (two_fail _ s.args.earlier turn.loop-k.k (omega (arith, called.loop-k-test.true))
+    (sym called.stay_two.ensures ∙ c.if-not-stay_two.true))
 
-add-k : tie.Need-overflow-add-k invariant-loop decreases-loop
+add-k : tie.Need-overflow_step-k invariant-loop-k decreases-loop-k
 add-k c = search rules
 
-loop-less : tie.Need-loop-smaller invariant-loop decreases-loop
+loop-less : tie.Need-loop-k-smaller invariant-loop-k decreases-loop-k
 loop-less c = search rules
 
-loop-again : tie.Need-loop-preserved invariant-loop decreases-loop
+loop-again : tie.Need-loop-k-preserved invariant-loop-k decreases-loop-k
 loop-again c =
     let called = c.before in
     let turn = called.before.before in
-    (search rules, two_more _ turn.loop.k turn.loop.invariant.1 (sym called.stay-two.ensures ∙ not-false called.stay-two.result c.if1.false))
+    (search rules, two_more _ turn.loop-k.k turn.loop-k.invariant.1 (sym called.stay_two.ensures ∙ c.if-not-stay_two.false))
 
-returns-2 : tie.Need-returns-2 invariant-loop decreases-loop
+returns-2 : tie.Need-returns-then-earlier-eq0 invariant-loop-k decreases-loop-k
 returns-2 c =
     let turn = c.before.before in
     let s = turn.before.before.before in
-    sym (every_holds s.args.earlier _ (λ i below. turn.loop.invariant.1 i (omega arith)))
+    sym (every_holds s.args.earlier _ (λ i below. turn.loop-k.invariant.1 i (omega arith)))
 
-sub-stays : tie.Need-overflow-sub-stays invariant-loop decreases-loop
+sub-stays : tie.Need-overflow_sub-earlier invariant-loop-k decreases-loop-k
 sub-stays c = search rules
 
-stays-requires : tie.Need-stays-requires invariant-loop decreases-loop
+stays-requires : tie.Need-stays-requires invariant-loop-k decreases-loop-k
 stays-requires c κs =
     let s = c.before.before.before.before.before in
     let a = s.args in
     (earlier_in a.rows.now a.row a.n a.m a.certificate.now a.place a.first a.earlier s.requires (a.earlier - 1) (omega arith), omega (arith, s.requires.shallow))
 
-returns-3 : tie.Need-returns-3 invariant-loop decreases-loop
+returns-3 : tie.Need-returns invariant-loop-k decreases-loop-k
 returns-3 c =
     let turn = c.before.before.before in
     let s = turn.before.before.before in
-    c.stays.ensures ∙ sym (last_decides _ s.args.earlier (omega arith) (λ i below. turn.loop.invariant.1 i (omega arith)))
+    c.stays.ensures ∙ sym (last_decides _ s.args.earlier (omega arith) (λ i below. turn.loop-k.invariant.1 i (omega arith)))
 
-pub none-rises-spec : {M : Type 1} → statement M
-none-rises-spec =
+pub none_rises_spec : {M : Type 1} → statement M
+none_rises_spec =
     tie.close
     (tie.spec
-    invariant-loop
-    decreases-loop
+    invariant-loop-k
+    decreases-loop-k
     mul-lists
     add-lists
     loop-holds

@@ -17,19 +17,19 @@ module _ (s : tie.Start) where
       let a = s.args in
       component_in a.rows.now a.row a.n a.m a.certificate.now a.place a.first a.component s.requires a.component (omega arith)
 
-mul-own : tie.Need-overflow-mul-own
+mul-own : tie.Need-overflow_mul-own
 mul-own c = search rules
 
-add-own : tie.Need-overflow-add-own
+add-own : tie.Need-overflow_add-own
 add-own c = search rules
 
-mul-own-2 : tie.Need-overflow-mul-own-2
+mul-own-2 : tie.Need-overflow_mul-own-2
 mul-own-2 c = let there = own_in c.before.before in search rules
 
-add-own-2 : tie.Need-overflow-add-own-2
+add-own-2 : tie.Need-overflow_add-own-2
 add-own-2 c = let there = own_in c.before.before in search rules
 
-own-holds-requires : tie.Need-own-holds-requires
+own-holds-requires : tie.Need-own_holds-holds-requires
 own-holds-requires c κs =
     let s = c.before.before in
     let a = s.args in (
@@ -38,49 +38,49 @@ own-holds-requires c κs =
       own_in s,
     )
 
-returns : tie.Need-returns
+returns : tie.Need-returns-then-not-holds
 unfolding path_number
 returns c =
-    let own = c.before.before.own-holds in
-    let bounded = sym own.ensures.0 ∙ not-true _ c.if1.true in
+    let own = c.own_holds-holds in
+    let bounded = sym own.ensures.0 ∙ c.if-not-holds.true in
     rw bounded
 
-returns-2 : tie.Need-returns-2
+returns-2 : tie.Need-returns-then-not-holds-2
 unfolding path_number
 returns-2 c =
     let else1 = c.before.before in
-    let own = else1.before.before.own-holds in
-    let bounded = sym own.ensures.0 ∙ not-false _ else1.if1.false in
-    let ranking = sym own.ensures.1 ∙ not-true _ c.if2.true in
+    let own = else1.own_holds-holds in
+    let bounded = sym own.ensures.0 ∙ else1.if-not-holds.false in
+    let ranking = sym own.ensures.1 ∙ c.if-not-holds-2.true in
     rw (bounded, ranking)
 
-none-rises-requires : tie.Need-none-rises-requires
+none-rises-requires : tie.Need-none_rises-requires
 none-rises-requires c κs = search rules
 
-returns-3 : tie.Need-returns-3
+returns-3 : tie.Need-returns-then-not-none_rises
 unfolding path_number
 returns-3 c =
     let else2 = c.before.before in
     let else1 = else2.before.before in
-    let own = else1.before.before.own-holds in
-    let bounded = sym own.ensures.0 ∙ not-false _ else1.if1.false in
-    let ranking = sym own.ensures.1 ∙ not-false _ else2.if2.false in
-    let unaffecting = sym c.before.none_rises.ensures ∙ not-true _ c.if3.true in
+    let own = else1.own_holds-holds in
+    let bounded = sym own.ensures.0 ∙ else1.if-not-holds.false in
+    let ranking = sym own.ensures.1 ∙ else2.if-not-holds-2.false in
+    let unaffecting = sym c.none_rises.ensures ∙ c.if-not-none_rises.true in
     rw (bounded, ranking, unaffecting)
 
-returns-4 : tie.Need-returns-4
+returns-4 : tie.Need-returns
 unfolding path_number
 returns-4 c =
     let else2 = c.before.before in
     let else1 = else2.before.before in
-    let own = else1.before.before.own-holds in
-    let bounded = sym own.ensures.0 ∙ not-false _ else1.if1.false in
-    let ranking = sym own.ensures.1 ∙ not-false _ else2.if2.false in
-    let unaffecting = sym c.before.none_rises.ensures ∙ not-false _ c.if3.false in
+    let own = else1.own_holds-holds in
+    let bounded = sym own.ensures.0 ∙ else1.if-not-holds.false in
+    let ranking = sym own.ensures.1 ∙ else2.if-not-holds-2.false in
+    let unaffecting = sym c.none_rises.ensures ∙ c.if-not-none_rises.false in
     rw (bounded, ranking, unaffecting)
 
-pub path-told-spec : {M : Type 1} → statement M
-path-told-spec =
+pub path_told_spec : {M : Type 1} → statement M
+path_told_spec =
     tie.close
     (tie.spec
     mul-own

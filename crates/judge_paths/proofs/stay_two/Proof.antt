@@ -7,20 +7,20 @@ use borrow.Author.Rules.{rules}
 use Rattle.judge_paths.proofs.stay_two.Statement.{statement}
 use Rattle.judge_paths.proofs.stay_two.Tie as tie
 
-staying-requires : tie.Need-staying-requires
+staying-requires : tie.Need-staying-here-requires
 staying-requires c κs = search rules
 
-add-staying : tie.Need-overflow-add-staying
+add-staying : tie.Need-overflow_add-i
 add-staying c = search rules
 
-staying-requires-2 : tie.Need-staying-requires-2
+staying-requires-2 : tie.Need-staying-next-requires
 staying-requires-2 c κs = search rules
 
-weigh-two-requires : tie.Need-weigh-two-requires
+weigh-two-requires : tie.Need-weigh_two-stay-requires
 weigh-two-requires c κs =
-    let p = c.before.before.before.before.requires in
-    let here = c.before.staying.ensures in
-    let next = c.staying2.ensures in (
+    let p = c.requires in
+    let here = c.staying-here.ensures in
+    let next = c.staying-next.ensures in (
       rw (here.0, here.1) p.0,
       omega (arith, here.2),
       rw here.3 (omega arith),
@@ -32,11 +32,11 @@ weigh-two-requires c κs =
 returns : tie.Need-returns
 unfolding staying_by
 returns c =
-    let weighed = c.before.weigh-two.ensures in
-    let next = c.before.before.staying2.ensures in
-    let here = c.before.before.before.staying.ensures in
+    let weighed = c.weigh_two-stay.ensures in
+    let next = c.staying-next.ensures in
+    let here = c.staying-here.ensures in
     ap₂ (λ x y. x && y) (rw (here.0, here.1, here.2, here.3) at weighed.0) (rw (next.0, next.1, next.2, next.3) at weighed.1)
 
-pub stay-two-spec : {M : Type 1} → statement M
-stay-two-spec =
+pub stay_two_spec : {M : Type 1} → statement M
+stay_two_spec =
     tie.close (tie.spec staying-requires add-staying staying-requires-2 weigh-two-requires returns)

@@ -11,13 +11,13 @@ staying-requires c κs = search rules
 weighs-requires : tie.Need-weighs-requires
 weighs-requires c κs =
     let held = c.staying.ensures in
-    (rw (held.0, held.1) c.before.before.before.requires.0, omega (arith, held.2), rw held.3 (omega arith))
+    (rw (held.0, held.1) c.requires.0, omega (arith, held.2), rw held.3 (omega arith))
 
 returns : tie.Need-returns
 unfolding staying_by
 returns c =
-    let held = c.before.staying.ensures in
+    let held = c.staying.ensures in
     rw (held.0, held.1, held.2, held.3) at c.weighs.ensures
 
-pub stays-spec : {M : Type 1} → statement M
-stays-spec = tie.close (tie.spec staying-requires weighs-requires returns)
+pub stays_spec : {M : Type 1} → statement M
+stays_spec = tie.close (tie.spec staying-requires weighs-requires returns)

@@ -20,7 +20,7 @@ start c = c.before.before.before.before.before
 
 summed : (c : tie.After-add_rows-beside)
     → Summed 32 (start c).args.rows.now (start c).args.certificate.now (start c).args.start (start c).args.n (start c).args.m
-    c.add_rows-beside.new.0 c.add_rows-beside.new.1.0 c.add_rows-beside.result
+    c.add_rows-beside.new.ys c.add_rows-beside.new.zs c.add_rows-beside.result
 summed c =
     let p = (start c).requires in
     record { narrow = omega (arith, p.1); few = p.2; wide = omega (arith, p.1); added = c.add_rows-beside.ensures }
@@ -71,7 +71,7 @@ returns c =
     let called = c.by_totals in
     let first = asked c.before.before in
     let rows = added first in
-    ranks (summed rows) first.columns_fault-fault.result called.result (start rows).args.rank.now called.new.1.1.1.1.1.1.0 first.columns_fault-fault.ensures called.ensures
+    ranks (summed rows) first.columns_fault-fault.result called.result (start rows).args.rank.now called.new.rank first.columns_fault-fault.ensures called.ensures
 
 pub over_many_spec : {M : Type 1} → statement M
 over_many_spec =

@@ -55,7 +55,7 @@ returns c =
     let a = s.args in
     rw
     (now_told a.number (a.number + 1) (a.number + 2) a.n (held s) l.loop-j.j asked.loop-j-test.true
-    (sym (rw (to_z-of_z s.ranges.h, to_z-of_z s.ranges.k) at (asked.column_holds-holds.ensures a.limit)).now_is ∙ c.if-not-holds.true)
+    (sym (rw (to_z-of_z s.ranges.h, to_z-of_z s.ranges.k) at (asked.column_holds-holds.ensures a.limit)).now_is ∙ not-true _ c.if-not-holds.true)
     (rw (to_z-of_z s.ranges.h, to_z-of_z s.ranges.k, to_z-of_z s.ranges.limit) at l.loop-j.invariant.1))
 
 remember-requires : tie.Need-remember-late-requires invariant-loop-j decreases-loop-j
@@ -74,7 +74,7 @@ loop-again c =
     let s = l.before.before.before in
     let told = asked.column_holds-holds.ensures (to_z w64 (of_z w64 s.args.limit)) in (
       search rules,
-      below_more _ l.loop-j.j l.loop-j.invariant.1 (sym told.now_is ∙ c.if-not-holds.false),
+      below_more _ l.loop-j.j l.loop-j.invariant.1 (sym told.now_is ∙ not-false _ c.if-not-holds.false),
       c.remember-late.ensures _ l.loop-j.invariant.2 told.next_is,
     )
 

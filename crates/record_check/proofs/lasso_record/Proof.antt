@@ -94,7 +94,7 @@ returns-3 c wanted known =
     let s = start ms in
     let a = s.args in
     c.refused-then-end-n.ensures
-    ∙ lasso_length wanted a.bytes.now a.n a.m s.requires.frame s.requires.numbered known s.requires.arguments ms.if-end-lt8.left ms.u16_at-ms.result ms.u16_at-ms.ensures.0 (ms_fits c.before.before)
+    ∙ lasso_length wanted a.bytes.now a.n a.m s.requires.frame s.requires.numbered known s.requires.arguments ms.if-end-lt8.false ms.u16_at-ms.result ms.u16_at-ms.ensures.0 (ms_fits c.before.before)
     (λ e. c.if-end-n.true (omega (arith, e)))
 
 lasso-fault-requires : tie.Need-lasso_fault-requires
@@ -113,7 +113,7 @@ returns-4 c wanted known =
     let at = c.lasso_fault in
     let told = at.ensures ∙ ap (λ fs. fault fs a.bytes.now 8) (sym (lasso_is (record { n = a.n; m = a.m; ms = ms.u16_at-ms.result }))) in
     c.ends.ensures
-    ∙ lasso_values wanted a.bytes.now a.n a.m s.requires.frame s.requires.numbered known s.requires.arguments ms.if-end-lt8.left ms.u16_at-ms.result ms.u16_at-ms.ensures.0 (ms_fits fit)
+    ∙ lasso_values wanted a.bytes.now a.n a.m s.requires.frame s.requires.numbered known s.requires.arguments ms.if-end-lt8.false ms.u16_at-ms.result ms.u16_at-ms.ensures.0 (ms_fits fit)
     (omega (arith, c.if-end-n.false)) at.result told
 
 pub lasso_record_spec : {M : Type 1} → statement M

@@ -77,7 +77,7 @@ returns-3 c =
     let s = start n in
     let out = sym c.rows_fit.ensures ∙ c.if-not-rows_fit.true in
     c.refused-then-not-rows_fit.ensures
-    ∙ loop_m s.args.bytes.now s.requires.0 s.requires.1 n.if-end-lt10.left n.u16_at-n.result n.u16_at-n.ensures.0 (n_fits m.before) m.u16_at-m.result m.u16_at-m.ensures.0 out
+    ∙ loop_m s.args.bytes.now s.requires.0 s.requires.1 n.if-end-lt10.false n.u16_at-n.result n.u16_at-n.ensures.0 (n_fits m.before) m.u16_at-m.result m.u16_at-m.ensures.0 out
 
 mul-if4 : tie.Need-overflow_mul-n
 mul-if4 c = search rules
@@ -101,7 +101,7 @@ returns-4 c =
     let n = n-of m in
     let s = start n in
     c.refused-then-end-m.ensures
-    ∙ loop_length s.args.bytes.now s.requires.0 s.requires.1 n.if-end-lt10.left n.u16_at-n.result n.u16_at-n.ensures.0 (n_fits m.before) m.u16_at-m.result m.u16_at-m.ensures.0 (m_fits fit)
+    ∙ loop_length s.args.bytes.now s.requires.0 s.requires.1 n.if-end-lt10.false n.u16_at-n.result n.u16_at-n.ensures.0 (n_fits m.before) m.u16_at-m.result m.u16_at-m.ensures.0 (m_fits fit)
     c.if-end-m.true
 
 rows-fault-requires : tie.Need-rows_fault-requires
@@ -118,7 +118,7 @@ returns-5 c =
     let n = n-of m in
     let s = start n in
     c.ends.ensures
-    ∙ loop_values s.args.bytes.now s.requires.0 s.requires.1 n.if-end-lt10.left n.u16_at-n.result n.u16_at-n.ensures.0 (n_fits m.before) m.u16_at-m.result m.u16_at-m.ensures.0 (m_fits fit)
+    ∙ loop_values s.args.bytes.now s.requires.0 s.requires.1 n.if-end-lt10.false n.u16_at-n.result n.u16_at-n.ensures.0 (n_fits m.before) m.u16_at-m.result m.u16_at-m.ensures.0 (m_fits fit)
     c.if-end-m.false at.result at.ensures
 
 pub loop_record_spec : {M : Type 1} → statement M

@@ -20,7 +20,7 @@ returns-3 c = rw c.in-4.is
 
 returns-4 : tie.Need-returns-in_default
 returns-4 c =
-    let rest = c.in_default.rest in
+    let rest = c.in_default.in_default-own.rest in
     sym (unwanted_kind _ _ (λ e. absurd (rest.0.0.1 e)) (λ e. absurd (rest.0.1 e)) (λ e. absurd (rest.1 e)))
 
 pub wants_spec : {M : Type 1} → statement M

@@ -47,7 +47,7 @@ returns-5 : tie.Need-returns-in_default
 unfolding writer kind kinds_written
 returns-5 c =
     let a = c.args in
-    let rest = c.in_default.rest in
+    let rest = c.before.in_default.in_default-own.rest in
     let other = other_kind a.kind rest.0.0.0.1 rest.0.0.1 rest.0.1 rest.1 in
     c.refused.ensures ∙ unknown (writer a.kind a.n a.m a.values.now []) (rw other)
 

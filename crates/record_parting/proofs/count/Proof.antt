@@ -12,59 +12,59 @@ use Rattle.record_parting.proofs.PartingPlaces.{one_record_more}
 use Rattle.record_parting.proofs.count.Statement.{statement}
 use Rattle.record_parting.proofs.count.Tie as tie
 
-abbrev invariant-loop : tie.invariant-loop
-invariant-loop bytes size count₀ from₀ count from = (from ≤ length bytes) × (count ≤ from) × (count + length (records (drop from bytes)) ≡ length (records bytes))
+abbrev invariant-loop-from : tie.invariant-loop-from
+invariant-loop-from bytes size count₀ from₀ count from = (from ≤ length bytes) × (count ≤ from) × (count + length (records (drop from bytes)) ≡ length (records bytes))
 
-abbrev decreases-loop : tie.decreases-loop
-decreases-loop bytes size count₀ from₀ count from = length bytes - from
+abbrev decreases-loop-from : tie.decreases-loop-from
+decreases-loop-from bytes size count₀ from₀ count from = length bytes - from
 
 -- one turn: the record that starts at `from`
-module _ (c : tie.After-end-at invariant-loop decreases-loop) where
+module _ (c : tie.After-end_at-from invariant-loop-from decreases-loop-from) where
   abbrev bytes : List ℕ
-  bytes = c.before.before.before.before.before.before.args.bytes.now
+  bytes = c.args.bytes.now
 
   abbrev from : ℕ
-  from = c.before.before.loop.from
+  from = c.loop-from.from
 
   moves : 0 < taken (drop from bytes)
   moves = taken_some (drop from bytes) (omega (arith, length-drop from bytes))
 
-  within : c.end_at.result ≤ length bytes
-  within = omega (arith, c.end_at.ensures, taken_within (drop from bytes), length-drop from bytes)
+  within : c.end_at-from.result ≤ length bytes
+  within = omega (arith, c.end_at-from.ensures, taken_within (drop from bytes), length-drop from bytes)
 
-  counted : c.before.before.loop.count + 1 + length (records (drop c.end_at.result bytes)) ≡ length (records bytes)
-  counted = omega (arith, one_record_more bytes from c.end_at.result c.end_at.ensures (omega arith), c.before.before.loop.invariant.2)
+  counted : c.loop-from.count + 1 + length (records (drop c.end_at-from.result bytes)) ≡ length (records bytes)
+  counted = omega (arith, one_record_more bytes from c.end_at-from.result c.end_at-from.ensures (omega arith), c.loop-from.invariant.2)
 
-first-end-requires : tie.Need-first-end-requires invariant-loop decreases-loop
+first-end-requires : tie.Need-first_end-size-requires invariant-loop-from decreases-loop-from
 first-end-requires c κs = search rules
 
-alike-requires : tie.Need-alike-requires invariant-loop decreases-loop
+alike-requires : tie.Need-alike-count-requires invariant-loop-from decreases-loop-from
 alike-requires c κs = search rules
 
-mul-from : tie.Need-overflow-mul-from invariant-loop decreases-loop
-mul-from c = omega (arith, c.alike.ensures.1)
+mul-from : tie.Need-overflow_mul-from invariant-loop-from decreases-loop-from
+mul-from c = omega (arith, c.alike-count.ensures.1)
 
-loop-holds : tie.Need-loop-init invariant-loop decreases-loop
-loop-holds c = let same = c.alike.ensures in (same.1, same.0, same.2)
+loop-holds : tie.Need-loop-from-init invariant-loop-from decreases-loop-from
+loop-holds c = let same = c.alike-count.ensures in (same.1, same.0, same.2)
 
-end-at-requires : tie.Need-end-at-requires invariant-loop decreases-loop
+end-at-requires : tie.Need-end_at-from-requires invariant-loop-from decreases-loop-from
 end-at-requires c κs = search rules
 
-add-count : tie.Need-overflow-add-count invariant-loop decreases-loop
+add-count : tie.Need-overflow_add-count invariant-loop-from decreases-loop-from
 add-count c = search rules
 
-loop-less : tie.Need-loop-smaller invariant-loop decreases-loop
-loop-less c = omega (arith, moves c, within c, c.end_at.ensures)
+loop-less : tie.Need-loop-from-smaller invariant-loop-from decreases-loop-from
+loop-less c = omega (arith, moves c, within c, c.end_at-from.ensures)
 
-loop-again : tie.Need-loop-preserved invariant-loop decreases-loop
-loop-again c = (within c, omega (arith, moves c, c.end_at.ensures), counted c)
+loop-again : tie.Need-loop-from-preserved invariant-loop-from decreases-loop-from
+loop-again c = (within c, omega (arith, moves c, c.end_at-from.ensures), counted c)
 
-returns : tie.Need-returns invariant-loop decreases-loop
+returns : tie.Need-returns invariant-loop-from decreases-loop-from
 returns c =
-    let l = c.before.loop in
-    let bytes = c.before.before.before.before.before.args.bytes.now in
+    let l = c.loop-from in
+    let bytes = c.args.bytes.now in
     let none : drop l.from bytes ≡ [] = drop_of_length-le bytes {i = l.from} (omega arith) in
     omega (arith, rw (none, records_none) at l.invariant.2)
 
 pub count_spec : {M : Type 1} → statement M
-count_spec = tie.close (tie.spec invariant-loop decreases-loop first-end-requires alike-requires mul-from loop-holds end-at-requires add-count loop-less loop-again returns)
+count_spec = tie.close (tie.spec invariant-loop-from decreases-loop-from first-end-requires alike-requires mul-from loop-holds end-at-requires add-count loop-less loop-again returns)

@@ -7,17 +7,17 @@ use borrow.Author.Rules.{rules}
 use Rattle.record_read.proofs.read_certificate.Statement.{statement}
 use Rattle.record_read.proofs.read_certificate.Tie as tie
 
-check-certificate-requires : tie.Need-check-certificate-requires
+check-certificate-requires : tie.Need-check_certificate-found-requires
 check-certificate-requires c κs = search rules
 
 unpack-requires : tie.Need-unpack-requires
 unfolding certificate_reader
 unpack-requires c κs =
-    let a = c.before.before.before.args in
-    let found = c.before.check-certificate in
+    let a = c.args in
+    let found = c.check_certificate-found in
     sized (certificate_reader a.bytes.now a.n a.m a.values.now) a.values.now refl found.result (found.ensures ∙ certificate_any_room a.bytes.now a.n a.m a.values.now)
 
-same_length : tie.Need-same-length
+same_length : tie.Need-shape_of-values
 same_length c = search rules
 
 returns : tie.Need-returns
@@ -26,10 +26,10 @@ returns c =
     let after-check-certificate = c.before.before.before in
     let start = after-check-certificate.before.before in
     let a = start.args in
-    let found = after-check-certificate.check-certificate in
+    let found = after-check-certificate.check_certificate-found in
     let way = unpack_reads (certificate_reader a.bytes.now a.n a.m a.values.now) a.values.now refl found.result (found.ensures ∙ certificate_any_room a.bytes.now a.n a.m a.values.now) in
-    (c.before.unpack.ensures.0 ∙ way.0, c.before.unpack.ensures.1 ∙ way.1)
+    (c.unpack.ensures.0 ∙ way.0, c.unpack.ensures.1 ∙ way.1)
 
-pub read-certificate-spec : {M : Type 1} → statement M
-read-certificate-spec =
+pub read_certificate_spec : {M : Type 1} → statement M
+read_certificate_spec =
     tie.close (tie.spec check-certificate-requires unpack-requires same_length returns)

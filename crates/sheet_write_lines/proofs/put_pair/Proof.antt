@@ -14,7 +14,7 @@ put-number-requires c κs = omega (arith, length_pair (decimal c.args.x) (decima
 
 put-number-requires-2 : tie.Need-put_number-requires
 put-number-requires-2 c κs =
-    let e = c.before.before.before in
+    let e = c in
     let a = e.args in
     omega (arith, e.put_number-at.ensures.end_is, length-append (decimal a.x) (32 ∷ []), length_pair (decimal a.x) (decimal a.y), e.put_number-at.auto.text)
 
@@ -23,11 +23,11 @@ same_length c = search rules
 
 returns : tie.Need-returns
 returns c =
-    let e = c.before.before.before.before.before.before in
+    let e = c in
     let a = e.args in
     rw (line_pair (decimal a.x) (decimal a.y))
     (puts_on (decimal a.x ++ (32 ∷ [])) (decimal a.y ++ (10 ∷ [])) (omega (arith, length-append (decimal a.x) (32 ∷ []), length_pair (decimal a.x) (decimal a.y)))
-    e.put_number-at.ensures c.put_number-at.ensures)
+    e.put_number-at.ensures c.put_number.ensures)
 
 pub put_pair_spec : {M : Type 1} → statement M
 put_pair_spec = tie.close (tie.spec put-number-requires put-number-requires-2 same_length returns)

@@ -15,15 +15,15 @@ put-bytes-requires c κs = search rules
 
 put-entries-requires : tie.Need-put_entries-at-requires
 put-entries-requires c κs =
-    let w = c.before.before.before in
+    let w = c in
     let a = w.args in
     omega (arith, w.put_bytes-at.ensures.end_is, w.put_bytes-at.auto.text, length_rank a.rank.now a.start a.fall)
 
 put-named-requires : tie.Need-put_named-at-requires
 put-named-requires c κs =
-    let e = c.before.before.before.before in
-    let w = e.before.before.before.before in
-    let s = w.before.before.before.before in
+    let e = c in
+    let w = e in
+    let s = w in
     rw (to_z-of_z s.ranges.start)
     (omega (
       arith,
@@ -36,10 +36,10 @@ put-named-requires c κs =
 
 put-named-requires-2 : tie.Need-put_named-requires
 put-named-requires-2 c κs =
-    let f = c.before.before.before.before in
-    let e = f.before.before.before.before.before in
-    let w = e.before.before.before.before in
-    let s = w.before.before.before.before in
+    let f = c in
+    let e = f in
+    let w = e in
+    let s = w in
     let named = rw (to_z-of_z s.ranges.start) at f.put_named-at.ensures in
     rw (to_z-of_z s.ranges.fall)
     (omega (
@@ -59,18 +59,18 @@ same_length c = search rules
 
 returns : tie.Need-returns
 returns c =
-    let f = c.before.before.before.before.before.before.before in
-    let e = f.before.before.before.before.before in
-    let w = e.before.before.before.before in
-    let s = w.before.before.before.before in
+    let f = c in
+    let e = f in
+    let w = e in
+    let s = w in
     let a = s.args in
     let named = rw (to_z-of_z s.ranges.start) at f.put_named-at.ensures in
-    let last = rw (to_z-of_z s.ranges.fall) at c.put_named-at.ensures in
+    let last = rw (to_z-of_z s.ranges.fall) at c.put_named.ensures in
     let size = length_rank a.rank.now a.start a.fall in
     let word_end = w.put_bytes-at.ensures.end_is in
-    let word_kept = w.put_bytes-at.auto.0 in
+    let word_kept = w.put_bytes-at.auto.text in
     let entries_end = e.put_entries-at.ensures.end_is in
-    let entries-kept = e.put_entries-at.auto.0 in
+    let entries-kept = e.put_entries-at.auto.text in
     rw (line_rank a.rank.now a.start a.fall)
     (puts_on a.word.now _ (omega arith) w.put_bytes-at.ensures
     (puts_on (entries a.rank.now) _ (omega (arith, size, word_end, word_kept)) e.put_entries-at.ensures

@@ -18,7 +18,7 @@ put-bytes-requires c κs =
 
 put-pair-requires : tie.Need-put_pair-requires
 put-pair-requires c κs =
-    let e = c.before.before.before in
+    let e = c in
     let a = e.args in
     omega (arith, ap length (line_refused (decimal a.number) (decimal a.fault)), e.put_bytes-at.ensures.end_is, e.put_bytes-at.auto.text)
 
@@ -27,7 +27,7 @@ same_length c = search rules
 
 returns : tie.Need-returns
 returns c =
-    let e = c.before.before.before.before.before.before in
+    let e = c in
     let a = e.args in
     rw (line_refused (decimal a.number) (decimal a.fault))
     (puts_on refused_word (line (decimal a.number ∷ decimal a.fault ∷ [])) (omega (arith, ap length (line_refused (decimal a.number) (decimal a.fault)))) e.put_bytes-at.ensures c.put_pair.ensures)
