@@ -5,7 +5,7 @@
 ghost use Rattle.std.specs.Prelude.{◌+◌, ◌≡◌, [], ◌++◌};
 ghost use Rattle.std.proofs.lemmas.List.Edits.{sets};
 ghost use Rattle.endian.specs.Numbers.{digits};
-ghost use Rattle.record.specs.Writers.{writer, writes, room-after};
+ghost use Rattle.record.specs.Writers.{writer, writes, room_after};
 ghost use Rattle.record_fill.specs.Bodies.{body_bytes};
 ghost use Rattle.record_write.specs.WrittenOut.{ToWrite, refusal};
 
@@ -42,7 +42,7 @@ fn write_out(
 // Writes a record: the first bytes of the room hold it afterwards.
 pub fn write_record(kind: usize, n: usize, m: usize, values: &[i64], room: &mut [u8]) -> Writing
     ensures value { result ≡ writes (writer kind n m values.now room.old) }
-    ensures room_after { room.new ≡ room-after (writer kind n m values.now room.old) room.old }
+    ensures room_after { room.new ≡ room_after (writer kind n m values.now room.old) room.old }
 {
     let found = record_given::settle(kind, n, m, values);
     if found.number != 0 {

@@ -4,10 +4,10 @@
 
 ghost use Rattle.std.specs.Prelude.{◌≡◌, length};
 ghost use Rattle.record.specs.Readers.{loop_reader, certificate_reader, reads, fills};
-ghost use Rattle.record.specs.Writers.{writer, writes, room-after};
+ghost use Rattle.record.specs.Writers.{writer, writes, room_after};
 ghost use Rattle.record_short.specs.Conversions.{shortens, shortened_room, lengthens, lengthened_room};
 ghost use Rattle.verdict_short.specs.Answers.{answered, rank_answered, bounded_answered};
-ghost use Rattle.sheet_text.specs.Sheets.{sheet_answers, room-after as text-after};
+ghost use Rattle.sheet_text.specs.Sheets.{sheet_answers, room_after as text_after};
 ghost use Rattle.judge_rows.specs.VerdictRows.{rows_after};
 ghost use Rattle.verdict_batch.specs.Batches.{batch_of, batch_answers, ranks_after};
 ghost use Rattle.verdict_flat.specs.FlatVerdicts.{flat_verdict};
@@ -152,7 +152,7 @@ pub extern "C" fn cushiedoo_write_record(
     room: &mut [u8],
 ) -> FlatWriting
     ensures value { result ≡ flat_writing (writes (writer kind n m values.now room.old)) }
-    ensures room_after { room.new ≡ room-after (writer kind n m values.now room.old) room.old }
+    ensures room_after { room.new ≡ room_after (writer kind n m values.now room.old) room.old }
 {
     flat_writing(record_write::write_record(kind, n, m, values, room))
 }
@@ -234,7 +234,7 @@ pub extern "C" fn cushiedoo_bound(
 #[unsafe(no_mangle)]
 pub extern "C" fn cushiedoo_sheet(input: &[u8], text: &mut [u8]) -> FlatWriting
     ensures value { result ≡ flat_writing (sheet_answers input.now text.old) }
-    ensures text_after { text.new ≡ text-after input.now text.old }
+    ensures text_after { text.new ≡ text_after input.now text.old }
 {
     flat_writing(sheet_write::sheet(input, text))
 }

@@ -67,12 +67,12 @@ module _ (c : tie.After-struct_told-4-1) where
   ys-modest : AllModest (2 * s.args.n) under_y.take_row.new.sums
   ys-modest =
       taken_modest s.args.rows.now s.args.certificate.now s.args.start s.args.n s.args.m s.args.place s.args.s under_y.u16_at-y_last.result
-      rows.add_rows-beside.new.0 under_y.take_row.new.0 s.requires.1 rows.add_rows-beside.ensures.0 under_y.take_row.ensures
+      rows.add_rows-beside.new.ys under_y.take_row.new.sums s.requires.1 rows.add_rows-beside.ensures.0 under_y.take_row.ensures
 
   zs-modest : AllModest (2 * s.args.n) under_z.take_row-2.new.sums
   zs-modest =
       taken_modest s.args.rows.now s.args.certificate.now s.args.start s.args.n s.args.m (s.args.place + 2 * (s.args.m + 1)) s.args.s
-      under_z.u16_at-z_last.result rows.add_rows-beside.new.1.0 under_z.take_row-2.new.0 s.requires.1 rows.add_rows-beside.ensures.1 under_z.take_row-2.ensures
+      under_z.u16_at-z_last.result rows.add_rows-beside.new.zs under_z.take_row-2.new.sums s.requires.1 rows.add_rows-beside.ensures.1 under_z.take_row-2.ensures
 
 -- ---- the needs
 
@@ -127,7 +127,7 @@ take-row-requires c κs =
     let a = s.args in
     let few : a.m < 16384 = omega (arith, s.requires.1) in
     let ys = rows.add_rows-beside.new.ys in (
-      omega (arith, s.requires.2, rows.add_rows-beside.auto.0),
+      omega (arith, s.requires.2, rows.add_rows-beside.auto.ys),
       λ k below. sums_modest a.certificate.now a.place a.rows.now a.start a.n a.m ys rows.add_rows-beside.ensures.0 few k (omega arith),
       c.u16_at-y_last.ensures.1,
       s.requires.4,
@@ -146,7 +146,7 @@ take-row-requires-2 c κs =
     let few : a.m < 16384 = omega (arith, s.requires.1) in
     let zs = rows.add_rows-beside.new.zs in
     let z = a.place + 2 * (a.m + 1) in (
-      omega (arith, s.requires.2, rows.add_rows-beside.auto.1.0),
+      omega (arith, s.requires.2, rows.add_rows-beside.auto.zs),
       λ k below. sums_modest a.certificate.now z a.rows.now a.start a.n a.m zs rows.add_rows-beside.ensures.1 few k (omega arith),
       c.u16_at-z_last.ensures.1,
       s.requires.4,
@@ -176,8 +176,8 @@ columns-fault-requires : tie.Need-columns_fault-fault-requires
 columns-fault-requires c κs =
     let p = (s c).requires in
     let sums = (rows c).add_rows-beside in (
-      omega (arith, p.2, sums.auto.ys, (under_y c).take_row.auto.ys),
-      omega (arith, p.2, sums.auto.zs, (under_z c).take_row-2.auto.ys),
+      omega (arith, p.2, sums.auto.ys, (under_y c).take_row.auto.sums),
+      omega (arith, p.2, sums.auto.zs, (under_z c).take_row-2.auto.sums),
       p.2,
       ys-modest c,
       zs-modest c,
@@ -193,7 +193,7 @@ by-totals-requires c κs =
     let asked = c.before.before.before.before in
     let p = (s asked).requires in
     let sums = (rows asked).add_rows-beside in (
-      omega (arith, p.2, sums.auto.zs, (under_z asked).take_row-2.auto.ys),
+      omega (arith, p.2, sums.auto.zs, (under_z asked).take_row-2.auto.sums),
       p.2,
       zs-modest asked,
       passed_modest sums.result.z.lift (z-modest (rows asked)),
@@ -248,17 +248,17 @@ returns c =
     let yb = (reached-y asked).and_times-yb in
     let zb = (reached-z asked).and_times-zb in
     let ys = y.take_row.new.sums in
-    let zs = z-row.take_row-2.new.0 in
+    let zs = z-row.take_row-2.new.sums in
     let told =
     rw (passed-z, to_z-of_z {w = w64} {z = yb.result} (grown_fits yb.ensures.1), to_z-of_z {w = w64} {z = zb.result} (grown_fits zb.ensures.1)) at called.ensures
     ys lift_y (rw (passed-y, passed-z) at first.columns_fault-fault.ensures) in
     ranked_by (longer_held a.rows.now a.start a.n a.m a.certificate.now a.s a.right) (ranking_held a.certificate.now a.place (a.m + 1))
     ys lift_y zs lift_z
-    (totalled_longer a.rows.now a.certificate.now a.start a.n a.m a.place a.s a.right sums.new.0 ys lift_y sums.new.1.0 zs lift_z
+    (totalled_longer a.rows.now a.certificate.now a.start a.n a.m a.place a.s a.right sums.new.ys ys lift_y sums.new.zs zs lift_z
     y.u16_at-y_last.result z-row.u16_at-z_last.result (few (rows asked))
     sums.ensures.0 y.take_row.ensures sums.ensures.4.lift_sum sums.ensures.1 z-row.take_row-2.ensures sums.ensures.5.lift_sum
     y.u16_at-y_last.ensures.0 z-row.u16_at-z_last.ensures.0)
-    yb.result zb.result called.result a.rank.now called.new.1.1.1.1.1.1.0
+    yb.result zb.result called.result a.rank.now called.new.rank
     (over-y asked) (over-z asked) told.0 told.1
 
 pub longer_ranking_spec : {M : Type 1} → statement M

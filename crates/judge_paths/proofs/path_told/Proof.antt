@@ -42,7 +42,7 @@ returns : tie.Need-returns-then-not-holds
 unfolding path_number
 returns c =
     let own = c.own_holds-holds in
-    let bounded = sym own.ensures.0 ∙ c.if-not-holds.true in
+    let bounded = sym own.ensures.0 ∙ not-true _ c.if-not-holds.true in
     rw bounded
 
 returns-2 : tie.Need-returns-then-not-holds-2
@@ -50,8 +50,8 @@ unfolding path_number
 returns-2 c =
     let else1 = c.before.before in
     let own = else1.own_holds-holds in
-    let bounded = sym own.ensures.0 ∙ else1.if-not-holds.false in
-    let ranking = sym own.ensures.1 ∙ c.if-not-holds-2.true in
+    let bounded = sym own.ensures.0 ∙ not-false _ else1.if-not-holds.false in
+    let ranking = sym own.ensures.1 ∙ not-true _ c.if-not-holds-2.true in
     rw (bounded, ranking)
 
 none-rises-requires : tie.Need-none_rises-requires
@@ -63,8 +63,8 @@ returns-3 c =
     let else2 = c.before.before in
     let else1 = else2.before.before in
     let own = else1.own_holds-holds in
-    let bounded = sym own.ensures.0 ∙ else1.if-not-holds.false in
-    let ranking = sym own.ensures.1 ∙ else2.if-not-holds-2.false in
+    let bounded = sym own.ensures.0 ∙ not-false _ else1.if-not-holds.false in
+    let ranking = sym own.ensures.1 ∙ not-false _ else2.if-not-holds-2.false in
     let unaffecting = sym c.none_rises.ensures ∙ c.if-not-none_rises.true in
     rw (bounded, ranking, unaffecting)
 
@@ -74,8 +74,8 @@ returns-4 c =
     let else2 = c.before.before in
     let else1 = else2.before.before in
     let own = else1.own_holds-holds in
-    let bounded = sym own.ensures.0 ∙ else1.if-not-holds.false in
-    let ranking = sym own.ensures.1 ∙ else2.if-not-holds-2.false in
+    let bounded = sym own.ensures.0 ∙ not-false _ else1.if-not-holds.false in
+    let ranking = sym own.ensures.1 ∙ not-false _ else2.if-not-holds-2.false in
     let unaffecting = sym c.none_rises.ensures ∙ c.if-not-none_rises.false in
     rw (bounded, ranking, unaffecting)
 

@@ -32,7 +32,7 @@ meets-requires c κs =
     let p = s.requires in
     let size = sizes a.rows.now a.row a.n a.m a.certificate.now a.first.list a.first.r a.first.next a.first.limit
     p.0.few t.new.ys t.result.y.lift.sum t.result.y.right.sum t.ensures.0 in
-    (omega (arith, p.0.narrow, t.auto.0), p.0.narrow, size.0, size.1, size.2, p.0.r_there, p.1, p.2)
+    (omega (arith, p.0.narrow, t.auto.ys), p.0.narrow, size.0, size.1, size.2, p.0.r_there, p.1, p.2)
 
 slice-aggregate-meets-2 : tie.Need-slice_bounds-meets-end-2
 slice-aggregate-meets-2 c = search rules
@@ -45,7 +45,7 @@ meets-requires-2 c κs =
     let p = s.requires in
     let size = sizes a.rows.now a.row a.n a.m a.certificate.now a.second.list a.second.r a.second.next a.second.limit
     p.3.few t.new.zs t.result.z.lift.sum t.result.z.right.sum t.ensures.1 in
-    (omega (arith, p.0.narrow, t.auto.1.0), p.0.narrow, size.0, size.1, size.2, p.3.r_there, p.4, p.5)
+    (omega (arith, p.0.narrow, t.auto.zs), p.0.narrow, size.0, size.1, size.2, p.3.r_there, p.4, p.5)
 
 returns : tie.Need-returns
 returns c =

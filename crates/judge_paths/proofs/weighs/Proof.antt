@@ -29,7 +29,7 @@ meets-requires c κs =
     let p = s.requires in
     let size = sizes a.rows.now a.row a.n a.m a.certificate.now a.held.list a.held.r a.held.next a.held.limit p.0.few t.new.sums
     t.result.lift.sum t.result.right.sum t.ensures in
-    (omega (arith, p.0.narrow, t.auto.0), p.0.narrow, size.0, size.1, size.2, p.0.r_there, p.1, p.2)
+    (omega (arith, p.0.narrow, t.auto.sums), p.0.narrow, size.0, size.1, size.2, p.0.r_there, p.1, p.2)
 
 returns : tie.Need-returns
 returns c =

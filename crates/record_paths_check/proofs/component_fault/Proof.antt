@@ -16,7 +16,7 @@ use Rattle.record_paths_check.proofs.component_fault.Statement.{statement}
 use Rattle.record_paths_check.proofs.component_fault.Tie as tie
 
 -- the call's start, from where r is in range
-abbrev start : tie.Else1 → tie.Start
+abbrev start : tie.Else-at-right → tie.Start
 start c = c.before.before.before
 
 widths-directions : (n : ℕ) → widths (replicate n direction) ≡ 4 * n
@@ -24,80 +24,80 @@ unfolding width direction
 widths-directions n = rw widths_replicate (omega arith)
 
 -- r is in range: the rest tells
-module _ (c : tie.Else1) where
+module _ (c : tie.Else-at-right) where
   past-directions : (let a = (start c).args in
       fault (right_side ∷ fall ∷ []) a.bytes.now (a.place + 4 * a.n) ≡ fault (component_fields a.n) a.bytes.now a.place)
   unfolding component_fields
   past-directions =
       let a = (start c).args in
-      let part = c.before.directions-fault in
+      let part = c.directions_fault-at in
       goes_on a.bytes.now (replicate a.n direction) (right_side ∷ fall ∷ []) a.place _ part.result
-      (ap (λ k. a.place + k) (sym (widths-directions a.n))) part.ensures c.if1.false
+      (ap (λ k. a.place + k) (sym (widths-directions a.n))) part.ensures c.if-at-right.false
 
 -- and δ0
-module _ (c : tie.Else2) where
+module _ (c : tie.Else-at-last) where
   past-right-side : (let a = (start c.before.before).args in
       fault (fall ∷ []) a.bytes.now (a.place + 4 * a.n + 4) ≡ fault (component_fields a.n) a.bytes.now a.place)
   unfolding widths width right_side
   past-right-side =
       let a = (start c.before.before).args in
-      let part = c.before.right-side-fault in
-      goes_on a.bytes.now (right_side ∷ []) (fall ∷ []) (a.place + 4 * a.n) _ part.result refl part.ensures c.if2.false
+      let part = c.right_side_fault-at in
+      goes_on a.bytes.now (right_side ∷ []) (fall ∷ []) (a.place + 4 * a.n) _ part.result refl part.ensures c.if-at-last.false
       ∙ past-directions c.before.before
 
-mul_right : tie.Need-overflow-mul-right
+mul_right : tie.Need-overflow_mul-right
 mul_right c = search rules
 
-add_right : tie.Need-overflow-add-right
+add_right : tie.Need-overflow_add-right
 add_right c = search rules
 
-directions-fault-requires : tie.Need-directions-fault-requires
+directions-fault-requires : tie.Need-directions_fault-at-requires
 directions-fault-requires c κs = search rules
 
-returns : tie.Need-returns
+returns : tie.Need-returns-then-at-right
 unfolding component_fields
 returns c =
-    let a = c.before.before.before.args in
-    let part = c.before.directions-fault in
+    let a = c.args in
+    let part = c.directions_fault-at in
     stops a.bytes.now (replicate a.n direction) (right_side ∷ fall ∷ []) a.place _ part.result
-    (ap (λ k. a.place + k) (sym (widths-directions a.n))) part.ensures c.if1.true
+    (ap (λ k. a.place + k) (sym (widths-directions a.n))) part.ensures c.if-at-right.true
 
-add-last : tie.Need-overflow-add-last
+add-last : tie.Need-overflow_add-last
 add-last c = search rules
 
-right-side-fault-requires : tie.Need-right-side-fault-requires
+right-side-fault-requires : tie.Need-right_side_fault-at-requires
 right-side-fault-requires c κs = search rules
 
-returns-2 : tie.Need-returns-2
+returns-2 : tie.Need-returns-then-at-last
 unfolding component_fields widths width right_side
 returns-2 c =
     let a = (start c.before.before).args in
-    let part = c.before.right-side-fault in
-    stops a.bytes.now (right_side ∷ []) (fall ∷ []) (a.place + 4 * a.n) _ part.result refl part.ensures c.if2.true
+    let part = c.right_side_fault-at in
+    stops a.bytes.now (right_side ∷ []) (fall ∷ []) (a.place + 4 * a.n) _ part.result refl part.ensures c.if-at-last.true
     ∙ past-directions c.before.before
 
-fall-fits-requires : tie.Need-fall-fits-requires
+fall-fits-requires : tie.Need-fall_fits-requires
 fall-fits-requires c κs = search rules
 
-add-result : tie.Need-overflow-add-result
+add-result : tie.Need-overflow_add-result
 add-result c = search rules
 
-returns-3 : tie.Need-returns-3
+returns-3 : tie.Need-returns-then-fall_fits
 unfolding component_fields width fall
 returns-3 c =
     let fell = c.before in
     let a = (start fell.before.before.before).args in
-    one_fits a.bytes.now fall (a.place + 4 * a.n + 4) (sym fell.fall_fits.ensures ∙ c.if3.true) ∙ past-right-side fell.before
+    one_fits a.bytes.now fall (a.place + 4 * a.n + 4) (sym fell.fall_fits.ensures ∙ c.if-fall_fits.true) ∙ past-right-side fell.before
 
-returns-4 : tie.Need-returns-4
+returns-4 : tie.Need-returns-else-fall_fits
 unfolding component_fields
 returns-4 c =
     let fell = c.before in
     let a = (start fell.before.before.before).args in
-    one_out a.bytes.now fall (a.place + 4 * a.n + 4) (sym fell.fall_fits.ensures ∙ c.if3.false) ∙ past-right-side fell.before
+    one_out a.bytes.now fall (a.place + 4 * a.n + 4) (sym fell.fall_fits.ensures ∙ c.if-fall_fits.false) ∙ past-right-side fell.before
 
-pub component-fault-spec : {M : Type 1} → statement M
-component-fault-spec =
+pub component_fault_spec : {M : Type 1} → statement M
+component_fault_spec =
     tie.close
     (tie.spec
     mul_right

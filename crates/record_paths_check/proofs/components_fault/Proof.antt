@@ -11,69 +11,69 @@ use borrow.Author.Rules.{rules}
 use Rattle.record_paths_check.proofs.components_fault.Statement.{statement}
 use Rattle.record_paths_check.proofs.components_fault.Tie as tie
 
-abbrev invariant-loop : tie.invariant-loop
-invariant-loop bytes place n count at₀ left₀ at left = Walk (components_fields n) (4 * n + 8) bytes place count at left
+abbrev invariant-loop-left : tie.invariant-loop-left
+invariant-loop-left bytes place n count at₀ left₀ at left = Walk (components_fields n) (4 * n + 8) bytes place count at left
 
-abbrev decreases-loop : tie.decreases-loop
-decreases-loop bytes place n count at₀ left₀ at left = left
+abbrev decreases-loop-left : tie.decreases-loop-left
+decreases-loop-left bytes place n count at₀ left₀ at left = left
 
 -- a component that is to come is there
-module _ (c : tie.At-loop invariant-loop decreases-loop) where
-  wide : 0 < c.loop.left → c.loop.at + (4 * c.before.before.args.n + 8) ≤ length c.before.before.args.bytes.now
-  wide some = omega (arith, c.loop.invariant.reach, mul-le-mul_right (4 * c.before.before.args.n + 8) some)
+module _ (c : tie.At-loop-left invariant-loop-left decreases-loop-left) where
+  wide : 0 < c.loop-left.left → c.loop-left.at + (4 * c.args.n + 8) ≤ length c.args.bytes.now
+  wide some = omega (arith, c.loop-left.invariant.reach, mul-le-mul_right (4 * c.args.n + 8) some)
 
-loop-holds : tie.Need-loop-init invariant-loop decreases-loop
+loop-holds : tie.Need-loop-left-init invariant-loop-left decreases-loop-left
 loop-holds c = walk_start _ _ _ _ _
 
-component-fault-requires : tie.Need-component-fault-requires invariant-loop decreases-loop
-component-fault-requires c κs = omega (arith, wide c.before c.loop-test.true)
+component-fault-requires : tie.Need-component_fault-here-requires invariant-loop-left decreases-loop-left
+component-fault-requires c κs = omega (arith, wide c.before c.loop-left-test.true)
 
-mul_next : tie.Need-overflow-mul-next invariant-loop decreases-loop
-mul_next c = omega (arith, wide c.before.before c.before.loop-test.true)
+mul_next : tie.Need-overflow_mul-next invariant-loop-left decreases-loop-left
+mul_next c = omega (arith, wide c.before.before c.loop-left-test.true)
 
-add-next : tie.Need-overflow-add-next invariant-loop decreases-loop
-add-next c = omega (arith, wide c.before.before c.before.loop-test.true)
+add-next : tie.Need-overflow_add-next invariant-loop-left decreases-loop-left
+add-next c = omega (arith, wide c.before.before c.loop-left-test.true)
 
-add-next-2 : tie.Need-overflow-add-next-2 invariant-loop decreases-loop
-add-next-2 c = omega (arith, wide c.before.before c.before.loop-test.true)
+add-next-2 : tie.Need-overflow_add-next-in-loop-left invariant-loop-left decreases-loop-left
+add-next-2 c = omega (arith, wide c.before.before c.loop-left-test.true)
 
-returns : tie.Need-returns invariant-loop decreases-loop
+returns : tie.Need-returns-then-here-next invariant-loop-left decreases-loop-left
 unfolding components_fields
 returns c =
     let at_loop = c.before.before.before in
-    let a = at_loop.before.before.args in
-    let w = at_loop.loop in
+    let a = at_loop.args in
+    let w = at_loop.loop-left in
     walk_here (components_fields a.n) (4 * a.n + 8) a.bytes.now a.place a.count (component_fields a.n) (λ k. refl) (widths_component a.n) w.at w.left w.invariant
-    c.before.before.loop-test.true c.before.component-fault.result c.before.component-fault.ensures c.if1.true
+    c.loop-left-test.true c.component_fault-here.result c.component_fault-here.ensures c.if-here-next.true
 
-sub-left : tie.Need-overflow-sub-left invariant-loop decreases-loop
+sub-left : tie.Need-overflow_sub-left invariant-loop-left decreases-loop-left
 sub-left c = search rules
 
-loop-less : tie.Need-loop-smaller invariant-loop decreases-loop
+loop-less : tie.Need-loop-left-smaller invariant-loop-left decreases-loop-left
 loop-less c = search rules
 
-loop-again : tie.Need-loop-preserved invariant-loop decreases-loop
+loop-again : tie.Need-loop-left-preserved invariant-loop-left decreases-loop-left
 unfolding components_fields
 loop-again c =
     let at_loop = c.before.before.before in
-    let a = at_loop.before.before.args in
-    let w = at_loop.loop in
+    let a = at_loop.args in
+    let w = at_loop.loop-left in
     walk_more (components_fields a.n) (4 * a.n + 8) a.bytes.now a.place a.count (component_fields a.n) (λ k. refl) (widths_component a.n) w.at w.left w.invariant
-    c.before.before.loop-test.true c.before.component-fault.result c.before.component-fault.ensures c.if1.false
+    c.loop-left-test.true c.component_fault-here.result c.component_fault-here.ensures c.if-here-next.false
 
-returns-2 : tie.Need-returns-2 invariant-loop decreases-loop
+returns-2 : tie.Need-returns invariant-loop-left decreases-loop-left
 unfolding components_fields
 returns-2 c =
-    let a = c.before.before.before.args in
-    let w = c.before.loop in
+    let a = c.args in
+    let w = c.loop-left in
     walk_end (components_fields a.n) (4 * a.n + 8) a.bytes.now a.place a.count w.at w.left refl w.invariant (omega arith)
 
-pub components-fault-spec : {M : Type 1} → statement M
-components-fault-spec =
+pub components_fault_spec : {M : Type 1} → statement M
+components_fault_spec =
     tie.close
     (tie.spec
-    invariant-loop
-    decreases-loop
+    invariant-loop-left
+    decreases-loop-left
     loop-holds
     component-fault-requires
     mul_next

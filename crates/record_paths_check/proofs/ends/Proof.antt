@@ -9,16 +9,16 @@ use Rattle.record_paths_check.proofs.ends.Tie as tie
 told-requires : tie.Need-told-requires
 told-requires c κs = search rules
 
-told-requires-2 : tie.Need-told-requires-2
+told-requires-2 : tie.Need-told-requires-else-at-end
 told-requires-2 c κs = search rules
 
-returns : tie.Need-returns
+returns : tie.Need-returns-then-at-end
 unfolding ended
-returns c = c.told.ensures ∙ rw (lt-ltb _ _ c.before.if1.true)
+returns c = c.told.ensures ∙ rw (lt-ltb _ _ c.if-at-end.true)
 
-returns-2 : tie.Need-returns-2
+returns-2 : tie.Need-returns-else-at-end
 unfolding ended
-returns-2 c = c.told2.ensures ∙ rw (le-ltb _ _ c.before.if1.false)
+returns-2 c = c.told-else-at-end.ensures ∙ rw (le-ltb _ _ c.if-at-end.false)
 
-pub ends-spec : {M : Type 1} → statement M
-ends-spec = tie.close (tie.spec told-requires told-requires-2 returns returns-2)
+pub ends_spec : {M : Type 1} → statement M
+ends_spec = tie.close (tie.spec told-requires told-requires-2 returns returns-2)

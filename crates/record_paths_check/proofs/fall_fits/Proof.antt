@@ -5,7 +5,7 @@ use borrow.Author.Rules.{rules}
 use Rattle.record_paths_check.proofs.fall_fits.Statement.{statement}
 use Rattle.record_paths_check.proofs.fall_fits.Tie as tie
 
-u32-at-requires : tie.Need-u32-at-requires
+u32-at-requires : tie.Need-u32_at-requires
 u32-at-requires c κs = search rules
 
 between-requires : tie.Need-between-requires
@@ -13,9 +13,9 @@ between-requires c κs = search rules
 
 returns : tie.Need-returns
 returns c =
-    let args = c.before.before.before.args in
-    let read = c.before.u32-at in
+    let args = c.args in
+    let read = c.u32_at in
     c.between.ensures ∙ fall_fits args.bytes.now args.place read.result read.ensures.0 read.ensures.1
 
-pub fall-fits-spec : {M : Type 1} → statement M
-fall-fits-spec = tie.close (tie.spec u32-at-requires between-requires returns)
+pub fall_fits_spec : {M : Type 1} → statement M
+fall_fits_spec = tie.close (tie.spec u32-at-requires between-requires returns)

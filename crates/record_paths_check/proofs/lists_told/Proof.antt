@@ -13,7 +13,7 @@ use Rattle.record_paths_check.proofs.lists_told.Statement.{statement}
 use Rattle.record_paths_check.proofs.lists_told.Tie as tie
 
 -- the call's start, from where the count of paths has been read
-abbrev start : tie.After-u16-at → tie.Start
+abbrev start : tie.After-u16_at-paths → tie.Start
 start p = p.before.before.before
 
 sound : (s : tie.Start) → PathsSound s.args.loopbytes.now
@@ -21,135 +21,135 @@ sound s = paths_sound s.args.loopbytes.now s.requires.0
 
 -- ---- once n has been read too: the formula stays small
 
-module _ (c : tie.After-u16-at2) where
-  n-small : c.u16-at2.result ≤ 16
+module _ (c : tie.After-u16_at-n) where
+  n-small : c.u16_at-n.result ≤ 16
   unfolding variables_in
-  n-small = rw c.u16-at2.ensures.0 (sound (start c.before.before.before.before.before)).few_variables
+  n-small = rw c.u16_at-n.ensures.0 (sound (start c.before.before.before.before.before)).few_variables
 
-  paths-small : c.before.before.before.before.before.u16-at.result ≤ 8
+  paths-small : c.u16_at-paths.result ≤ 8
   unfolding paths_in
-  paths-small = let p = c.before.before.before.before.before in rw p.u16-at.ensures.0 (sound (start p)).few_paths
+  paths-small = let p = c.before.before.before.before.before in rw p.u16_at-paths.ensures.0 (sound (start p)).few_paths
 
-  components-small : (start c.before.before.before.before.before).args.components * (4 * c.u16-at2.result + 8) ≤ 8 * 72
+  components-small : (start c.before.before.before.before.before).args.components * (4 * c.u16_at-n.result + 8) ≤ 8 * 72
   components-small =
       let s = start c.before.before.before.before.before in
-      let wide : 4 * c.u16-at2.result + 8 ≤ 72 = omega (arith, n-small) in
-      mul-le-mul (few_components (counted s.args.loopbytes.now) s.args.bytes.now s.args.components s.pre.1) wide
+      let wide : 4 * c.u16_at-n.result + 8 ≤ 72 = omega (arith, n-small) in
+      mul-le-mul (few_components (counted s.args.loopbytes.now) s.args.bytes.now s.args.components s.requires.1) wide
 
-  lists-few : c.before.before.before.lists-walked.result.sum ≤ 8 * 576
+  lists-few : c.lists_walked-walk.result.sum ≤ 8 * 576
   unfolding counted paths_in
   lists-few =
       let walk = c.before.before.before in
       let p = walk.before.before in
       let s = start p in
-      let sum = lists_small (counted s.args.loopbytes.now) s.args.bytes.now s.args.components s.pre.1 p.u16-at.result p.u16-at.ensures.0
-      walk.before.if1.false walk.lists-walked.result walk.lists-walked.ensures c.before.if2.false
-      (λ j below. (sound s).few_rows j (omega (arith, p.u16-at.ensures.0))) in
+      let sum = lists_small (counted s.args.loopbytes.now) s.args.bytes.now s.args.components s.requires.1 p.u16_at-paths.result p.u16_at-paths.ensures.0
+      walk.if-end-start.false walk.lists_walked-walk.result walk.lists_walked-walk.ensures c.if-walk-paths.false
+      (λ j below. (sound s).few_rows j (omega (arith, p.u16_at-paths.ensures.0))) in
       omega (arith, sum, paths-small)
 
-u16-at-requires : tie.Need-u16-at-requires
+u16-at-requires : tie.Need-u16_at-paths-requires
 u16-at-requires c κs = omega (arith, (sound c.before.before).long)
 
-mul-start : tie.Need-overflow-mul-start
+mul-start : tie.Need-overflow_mul-start
 mul-start c = search rules
 
-add_start : tie.Need-overflow-add-start
+add_start : tie.Need-overflow_add-start
 add_start c = search rules
 
 told-requires : tie.Need-told-requires
 told-requires c κs = search rules
 
-returns : tie.Need-returns
+returns : tie.Need-returns-then-end-start
 unfolding counted variables_in paths_in
 returns c =
     let p = c.before.before in
     let s = start p in
     c.told.ensures
-    ∙ says (no_numbers (counted s.args.loopbytes.now) s.args.bytes.now s.args.components s.pre.1 p.u16-at.result p.u16-at.ensures.0 c.before.if1.true)
+    ∙ says (no_numbers (counted s.args.loopbytes.now) s.args.bytes.now s.args.components s.requires.1 p.u16_at-paths.result p.u16_at-paths.ensures.0 c.if-end-start.true)
 
-lists-walked-requires : tie.Need-lists-walked-requires
+lists-walked-requires : tie.Need-lists_walked-walk-requires
 unfolding paths_in
 lists-walked-requires c κs =
     let p = c.before in
     let s = start p in
-    (record { loop_sound = s.pre.0; paths_read = p.u16-at.ensures.0; there = c.if1.false }, few_components (counted s.args.loopbytes.now) s.args.bytes.now s.args.components s.pre.1)
+    (record { loop_sound = s.requires.0; paths_read = p.u16_at-paths.ensures.0; there = c.if-end-start.false }, few_components (counted s.args.loopbytes.now) s.args.bytes.now s.args.components s.requires.1)
 
-mul-told : tie.Need-overflow-mul-told
+mul-told : tie.Need-overflow_mul-walk
 mul-told c = search rules
 
-add-told : tie.Need-overflow-add-told
+add-told : tie.Need-overflow_add-walk
 add-told c = search rules
 
-told-requires-2 : tie.Need-told-requires-2
+told-requires-2 : tie.Need-told-requires-then-walk-paths
 told-requires-2 c κs = search rules
 
-returns-2 : tie.Need-returns-2
+returns-2 : tie.Need-returns-then-walk-paths
 unfolding counted variables_in paths_in
 returns-2 c =
     let walk = c.before.before.before.before in
     let p = walk.before.before in
     let s = start p in
-    c.told2.ensures
-    ∙ says (missing (counted s.args.loopbytes.now) s.args.bytes.now s.args.components s.pre.1 p.u16-at.result p.u16-at.ensures.0
-    walk.before.if1.false walk.lists-walked.result walk.lists-walked.ensures c.before.before.if2.true)
+    c.told-then-walk-paths.ensures
+    ∙ says (missing (counted s.args.loopbytes.now) s.args.bytes.now s.args.components s.requires.1 p.u16_at-paths.result p.u16_at-paths.ensures.0
+    walk.if-end-start.false walk.lists_walked-walk.result walk.lists_walked-walk.ensures c.if-walk-paths.true)
 
-u16-at-requires-2 : tie.Need-u16-at-requires-2
+u16-at-requires-2 : tie.Need-u16_at-n-requires
 u16-at-requires-2 c κs = omega (arith, (sound (start c.before.before.before.before)).long)
 
-mul-if3 : tie.Need-overflow-mul-if3
+mul-if3 : tie.Need-overflow_mul-n
 mul-if3 c = omega (arith, n-small c)
 
-add-if3 : tie.Need-overflow-add-if3
+add-if3 : tie.Need-overflow_add-n
 add-if3 c = omega (arith, n-small c)
 
-mul-if3-2 : tie.Need-overflow-mul-if3-2
+mul-if3-2 : tie.Need-overflow_mul-components
 mul-if3-2 c = omega (arith, components-small c)
 
-add-if3-2 : tie.Need-overflow-add-if3-2
+add-if3-2 : tie.Need-overflow_add-start-2
 add-if3-2 c = omega (arith, components-small c, paths-small c)
 
-mul-if3-3 : tie.Need-overflow-mul-if3-3
+mul-if3-3 : tie.Need-overflow_mul-walk-2
 mul-if3-3 c = omega (arith, lists-few c.before)
 
-add-if3-3 : tie.Need-overflow-add-if3-3
+add-if3-3 : tie.Need-overflow_add-start-3
 add-if3-3 c = omega (arith, lists-few c.before, components-small c.before, paths-small c.before)
 
-told-requires-3 : tie.Need-told-requires-3
+told-requires-3 : tie.Need-told-requires-then-end-start-2
 told-requires-3 c κs = search rules
 
-returns-3 : tie.Need-returns-3
+returns-3 : tie.Need-returns-then-end-start-2
 unfolding counted variables_in paths_in
 returns-3 c =
     let n = c.before.before.before in
     let walk = n.before.before.before in
     let p = walk.before.before in
     let s = start p in
-    c.told3.ensures
-    ∙ says (bad_length (counted s.args.loopbytes.now) s.args.bytes.now s.args.components s.pre.1 p.u16-at.result p.u16-at.ensures.0
-    walk.before.if1.false walk.lists-walked.result walk.lists-walked.ensures n.before.if2.false n.u16-at2.result n.u16-at2.ensures.0 c.before.if3.true)
+    c.told-then-end-start-2.ensures
+    ∙ says (bad_length (counted s.args.loopbytes.now) s.args.bytes.now s.args.components s.requires.1 p.u16_at-paths.result p.u16_at-paths.ensures.0
+    walk.if-end-start.false walk.lists_walked-walk.result walk.lists_walked-walk.ensures n.if-walk-paths.false n.u16_at-n.result n.u16_at-n.ensures.0 c.if-end-start-2.true)
 
-argument-fault-requires : tie.Need-argument-fault-requires
-argument-fault-requires c κs = (n-small c.before.before, omega (arith, c.if3.false))
+argument-fault-requires : tie.Need-argument_fault-requires
+argument-fault-requires c κs = (n-small c.before.before, omega (arith, c.if-end-start-2.false))
 
 ends-requires : tie.Need-ends-requires
 ends-requires c κs = search rules
 
-returns-4 : tie.Need-returns-4
+returns-4 : tie.Need-returns
 unfolding counted variables_in paths_in
 returns-4 c =
-    let at = c.before.argument-fault in
+    let at = c.argument_fault in
     let long = c.before.before in
     let n = long.before.before in
     let walk = n.before.before.before in
     let p = walk.before.before in
     let s = start p in
     c.ends.ensures
-    ∙ values_told (counted s.args.loopbytes.now) s.args.bytes.now s.args.components s.pre.1 p.u16-at.result p.u16-at.ensures.0
-    walk.before.if1.false walk.lists-walked.result walk.lists-walked.ensures n.before.if2.false n.u16-at2.result n.u16-at2.ensures.0
-    long.if3.false at.result at.ensures
+    ∙ values_told (counted s.args.loopbytes.now) s.args.bytes.now s.args.components s.requires.1 p.u16_at-paths.result p.u16_at-paths.ensures.0
+    walk.if-end-start.false walk.lists_walked-walk.result walk.lists_walked-walk.ensures n.if-walk-paths.false n.u16_at-n.result n.u16_at-n.ensures.0
+    long.if-end-start-2.false at.result at.ensures
 
-pub lists-told-spec : {M : Type 1} → statement M
-lists-told-spec =
+pub lists_told_spec : {M : Type 1} → statement M
+lists_told_spec =
     tie.close
     (tie.spec
     u16-at-requires

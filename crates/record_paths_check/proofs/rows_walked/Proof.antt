@@ -13,83 +13,83 @@ use borrow.Author.Rules.{rules}
 use Rattle.record_paths_check.proofs.rows_walked.Statement.{statement}
 use Rattle.record_paths_check.proofs.rows_walked.Tie as tie
 
-abbrev invariant-loop : tie.invariant-loop
-invariant-loop bytes paths sum₀ j₀ sum j = SoFar paths (m_fits bytes) (rows_in bytes) j sum
+abbrev invariant-loop-j : tie.invariant-loop-j
+invariant-loop-j bytes paths sum₀ j₀ sum j = SoFar paths (m_fits bytes) (rows_in bytes) j sum
 
-abbrev decreases-loop : tie.decreases-loop
-decreases-loop bytes paths sum₀ j₀ sum j = paths - j
+abbrev decreases-loop-j : tie.decreases-loop-j
+decreases-loop-j bytes paths sum₀ j₀ sum j = paths - j
 
-abbrev start : tie.At-loop invariant-loop decreases-loop → tie.Start invariant-loop decreases-loop
+abbrev start : tie.At-loop-j invariant-loop-j decreases-loop-j → tie.Start invariant-loop-j decreases-loop-j
 start w = w.before.before
 
-small : (w : tie.At-loop invariant-loop decreases-loop) → w.loop.sum ≤ w.loop.j * 64
+small : (w : tie.At-loop-j invariant-loop-j decreases-loop-j) → w.loop-j.sum ≤ w.loop-j.j * 64
 small w =
     let a = (start w).args in
-    walk_small a.paths (m_fits a.bytes.now) (rows_in a.bytes.now) w.loop.j w.loop.sum w.loop.invariant 64
+    walk_small a.paths (m_fits a.bytes.now) (rows_in a.bytes.now) w.loop-j.j w.loop-j.sum w.loop-j.invariant 64
     (λ i below fit. rows_most (rows_in a.bytes.now i) fit)
 
-loop-holds : tie.Need-loop-init invariant-loop decreases-loop
+loop-holds : tie.Need-loop-j-init invariant-loop-j decreases-loop-j
 loop-holds c = walk_start _ _ _
 
-mul-u16-at : tie.Need-overflow-mul-u16-at invariant-loop decreases-loop
+mul-u16-at : tie.Need-overflow_mul-j invariant-loop-j decreases-loop-j
 mul-u16-at c = search rules
 
-add-u16-at : tie.Need-overflow-add-u16-at invariant-loop decreases-loop
+add-u16-at : tie.Need-overflow_add-j invariant-loop-j decreases-loop-j
 add-u16-at c = search rules
 
-u16-at-requires : tie.Need-u16-at-requires invariant-loop decreases-loop
+u16-at-requires : tie.Need-u16_at-m-requires invariant-loop-j decreases-loop-j
 u16-at-requires c κs = search rules
 
-rows-fit-requires : tie.Need-rows-fit-requires invariant-loop decreases-loop
+rows-fit-requires : tie.Need-rows_fit-requires invariant-loop-j decreases-loop-j
 rows-fit-requires c κs = search rules
 
-returns : tie.Need-returns invariant-loop decreases-loop
+returns : tie.Need-returns-then-not-rows_fit invariant-loop-j decreases-loop-j
 unfolding rows_in
 returns c =
     let w = c.before.before.before.before in
     let a = (start w).args in
-    let read = c.before.before.u16-at.ensures.0 in
-    let out : m_fits a.bytes.now w.loop.j ≡ false
-    = rw (← read) (sym c.before.rows_fit.ensures ∙ not-true _ c.if1.true) in
-    walk_stops a.paths (m_fits a.bytes.now) (rows_in a.bytes.now) w.loop.j w.loop.sum w.loop.invariant
-    c.before.before.before.loop-test.true out
+    let read = c.u16_at-m.ensures.0 in
+    let out : m_fits a.bytes.now w.loop-j.j ≡ false
+    = rw (← read) (sym c.rows_fit.ensures ∙ c.if-not-rows_fit.true) in
+    walk_stops a.paths (m_fits a.bytes.now) (rows_in a.bytes.now) w.loop-j.j w.loop-j.sum w.loop-j.invariant
+    c.loop-j-test.true out
 
-add-sum : tie.Need-overflow-add-sum invariant-loop decreases-loop
+add-sum : tie.Need-overflow_add-sum invariant-loop-j decreases-loop-j
 add-sum c =
     let w = c.before.before.before.before in
     let s = start w in
-    omega (arith, small w, mul-le-mul_right 64 w.loop.invariant.inside, s.pre.0, c.before.before.u16-at.ensures.1)
+    omega (arith, small w, mul-le-mul_right 64 w.loop-j.invariant.inside, s.requires.0, c.u16_at-m.ensures.1)
 
-add-j : tie.Need-overflow-add-j invariant-loop decreases-loop
+add-j : tie.Need-overflow_step-j invariant-loop-j decreases-loop-j
 add-j c = search rules
 
-loop-less : tie.Need-loop-smaller invariant-loop decreases-loop
+loop-less : tie.Need-loop-j-smaller invariant-loop-j decreases-loop-j
 loop-less c = search rules
 
-loop-again : tie.Need-loop-preserved invariant-loop decreases-loop
+loop-again : tie.Need-loop-j-preserved invariant-loop-j decreases-loop-j
 unfolding rows_in
 loop-again c =
     let w = c.before.before.before.before in
     let a = (start w).args in
-    let read = c.before.before.u16-at.ensures.0 in
-    let fit : m_fits a.bytes.now w.loop.j ≡ true
-    = rw (← read) (sym c.before.rows_fit.ensures ∙ not-false _ c.if1.false) in
+    let read = c.u16_at-m.ensures.0 in
+    let fit : m_fits a.bytes.now w.loop-j.j ≡ true
+    = rw (← read) (sym c.rows_fit.ensures ∙ c.if-not-rows_fit.false) in
     rw read
-    (walk_more a.paths (m_fits a.bytes.now) (rows_in a.bytes.now) w.loop.j w.loop.sum w.loop.invariant
-    c.before.before.before.loop-test.true fit)
+    (walk_more a.paths (m_fits a.bytes.now) (rows_in a.bytes.now) w.loop-j.j w.loop-j.sum w.loop-j.invariant
+    c.loop-j-test.true fit)
 
-returns-2 : tie.Need-returns-2 invariant-loop decreases-loop
+returns-2 : tie.Need-returns invariant-loop-j decreases-loop-j
 returns-2 c =
     let w = c.before in
     let a = (start w).args in
-    walk_ends a.paths (m_fits a.bytes.now) (rows_in a.bytes.now) w.loop.j w.loop.sum w.loop.invariant (omega arith)
+    walk_ends a.paths (m_fits a.bytes.now) (rows_in a.bytes.now) w.loop-j.j w.loop-j.sum w.loop-j.invariant (omega arith)
 
-pub rows-walked-spec : {M : Type 1} → statement M
-rows-walked-spec =
+pub rows_walked_spec : {M : Type 1} → statement M
+rows_walked_spec =
     tie.close
     (tie.spec
-    invariant-loop
-    decreases-loop
+    invariant-loop-j
+    decreases-loop-j
     loop-holds
     mul-u16-at
     add-u16-at

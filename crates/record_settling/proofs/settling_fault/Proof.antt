@@ -12,50 +12,50 @@ use Rattle.record_settling.proofs.settling_fault.Statement.{statement}
 use Rattle.record_settling.proofs.settling_fault.Tie as tie
 
 -- where the call started, from where the linear part was asked, and where that part ends
-abbrev start : tie.After-linear-fault → tie.Start
+abbrev start : tie.After-linear_fault-at → tie.Start
 start c = c.before.before
 
-linear-ends : (c : tie.After-linear-fault) → let n = (start c).args.n in 10 + 2 * n ≡ 6 + widths (linear n)
+linear-ends : (c : tie.After-linear_fault-at) → let n = (start c).args.n in 10 + 2 * n ≡ 6 + widths (linear n)
 linear-ends c = omega (arith, widths_linear (start c).args.n)
 
-mul-scale : tie.Need-overflow-mul-scale
+mul-scale : tie.Need-overflow_mul-scale
 mul-scale c = search rules
 
-add-scale : tie.Need-overflow-add-scale
+add-scale : tie.Need-overflow_add-scale
 add-scale c = search rules
 
-linear-fault-requires : tie.Need-linear-fault-requires
+linear-fault-requires : tie.Need-linear_fault-at-requires
 linear-fault-requires c κs = search rules
 
-returns : tie.Need-returns
+returns : tie.Need-returns-then-at-scale
 returns c =
     let asked = c.before in
     let a = (start asked).args in
-    let part = asked.linear-fault in
-    stops a.bytes.now (linear a.n) (weights (3 * a.m + 2)) 6 _ part.result (linear-ends asked) part.ensures c.if1.true
+    let part = asked.linear_fault-at in
+    stops a.bytes.now (linear a.n) (weights (3 * a.m + 2)) 6 _ part.result (linear-ends asked) part.ensures c.if-at-scale.true
     ∙ ap (λ fs. fault fs a.bytes.now 6) (sym (settling_is a.n a.m))
 
-mul-weights-fault : tie.Need-overflow-mul-weights-fault
+mul-weights-fault : tie.Need-overflow_mul-m
 mul-weights-fault c = search rules
 
-add-weights-fault : tie.Need-overflow-add-weights-fault
+add-weights-fault : tie.Need-overflow_add-m
 add-weights-fault c = search rules
 
-weights-fault-requires : tie.Need-weights-fault-requires
+weights-fault-requires : tie.Need-weights_fault-requires
 weights-fault-requires c κs = search rules
 
-returns-2 : tie.Need-returns-2
+returns-2 : tie.Need-returns
 returns-2 c =
     let past = c.before in
     let asked = past.before in
     let a = (start asked).args in
-    let part = asked.linear-fault in
-    c.weights-fault.ensures
-    ∙ goes_on a.bytes.now (linear a.n) (weights (3 * a.m + 2)) 6 _ part.result (linear-ends asked) part.ensures past.if1.false
+    let part = asked.linear_fault-at in
+    c.weights_fault.ensures
+    ∙ goes_on a.bytes.now (linear a.n) (weights (3 * a.m + 2)) 6 _ part.result (linear-ends asked) part.ensures past.if-at-scale.false
     ∙ ap (λ fs. fault fs a.bytes.now 6) (sym (settling_is a.n a.m))
 
-pub settling-fault-spec : {M : Type 1} → statement M
-settling-fault-spec =
+pub settling_fault_spec : {M : Type 1} → statement M
+settling_fault_spec =
     tie.close
     (tie.spec
     mul-scale

@@ -10,69 +10,69 @@ use Rattle.record_short_write.proofs.lengthen.Statement.{statement}
 use Rattle.record_short_write.proofs.lengthen.Tie as tie
 
 -- where the record is sound
-abbrev start : tie.Else1 → tie.Start
+abbrev start : tie.Else-found-ne0 → tie.Start
 start c = c.before.before.before.before.before
 
-sound : (c : tie.Else1) → (let a = (start c).args in ShortSound a.n a.m a.bytes.now)
+sound : (c : tie.Else-found-ne0) → (let a = (start c).args in ShortSound a.n a.m a.bytes.now)
 sound c =
     let found = c.before.before in
     let a = (start c).args in
-    found_short a.bytes.now a.n a.m a.room.now found.check-short.result found.check-short.ensures c.if1.false
+    found_short a.bytes.now a.n a.m a.room.now found.check_short-found.result found.check_short-found.ensures c.if-found-ne0.false
 
-few_rows : (c : tie.Else1) → (start c).args.m ≤ 64
+few_rows : (c : tie.Else-found-ne0) → (start c).args.m ≤ 64
 few_rows c = rows_most (start c).args.m (sound c).m_fits
 
-check-short-requires : tie.Need-check-short-requires
+check-short-requires : tie.Need-check_short-found-requires
 check-short-requires c κs = search rules
 
 refused-requires : tie.Need-refused-requires
 refused-requires c κs = search rules
 
-returns : tie.Need-returns
+returns : tie.Need-returns-then-found-ne0
 returns c =
     let found = c.before.before.before in
-    let a = found.before.before.before.args in
-    let way = unsound_short a.bytes.now a.n a.m a.room.now found.check-short.result found.check-short.ensures c.before.if1.true in
+    let a = found.args in
+    let way = unsound_short a.bytes.now a.n a.m a.room.now found.check_short-found.result found.check_short-found.ensures c.if-found-ne0.true in
     (c.refused.ensures ∙ way.0, way.1)
 
-mul-long : tie.Need-overflow-mul-long
+mul-long : tie.Need-overflow_mul-long
 mul-long c = omega (arith, few_rows c)
 
-add-long : tie.Need-overflow-add-long
+add-long : tie.Need-overflow_add-long
 add-long c = omega (arith, few_rows c)
 
-refused-requires-2 : tie.Need-refused-requires-2
+refused-requires-2 : tie.Need-refused-requires-then-room-long
 refused-requires-2 c κs = search rules
 
-returns-2 : tie.Need-returns-2
+returns-2 : tie.Need-returns-then-room-long
 returns-2 c =
     let right = c.before.before in
     let found = right.before.before in
     let a = (start right).args in
-    let way = long_refused a.bytes.now a.n a.m a.room.now found.check-short.result found.check-short.ensures right.if1.false c.before.if2.true in
-    (c.refused2.ensures ∙ way.0, way.1)
+    let way = long_refused a.bytes.now a.n a.m a.room.now found.check_short-found.result found.check_short-found.ensures right.if-found-ne0.false c.if-room-long.true in
+    (c.refused-then-room-long.ensures ∙ way.0, way.1)
 
-lengthen-into-requires : tie.Need-lengthen-into-requires
+lengthen-into-requires : tie.Need-lengthen_into-requires
 lengthen-into-requires c κs =
     let right = c.before.before in
     let a = (start right).args in
-    (sound_lengthens a.n a.m a.bytes.now (sound right), c.before.if2.false)
+    (sound_lengthens a.n a.m a.bytes.now (sound right), c.if-room-long.false)
 
-same_length : tie.Need-same-length
+same_length : tie.Need-shape_of-room
 same_length c = search rules
 
-returns-3 : tie.Need-returns-3
+returns-3 : tie.Need-returns
 returns-3 c =
     let into = c.before.before in
     let enough = into.before.before in
     let right = enough.before in
     let found = right.before.before in
     let a = (start right).args in
-    long_written a.bytes.now a.n a.m a.room.now found.check-short.result found.check-short.ensures right.if1.false enough.if2.false _
-    (into.lengthen-into.ensures a.n)
+    long_written a.bytes.now a.n a.m a.room.now found.check_short-found.result found.check_short-found.ensures right.if-found-ne0.false enough.if-room-long.false _
+    (into.lengthen_into.ensures a.n)
 
-pub lengthen-spec : {M : Type 1} → statement M
-lengthen-spec =
+pub lengthen_spec : {M : Type 1} → statement M
+lengthen_spec =
     tie.close
     (tie.spec
     check-short-requires

@@ -4,28 +4,28 @@ use borrow.Author.Rules.{rules}
 use Rattle.record_short_write.proofs.lengthen_into.Statement.{statement}
 use Rattle.record_short_write.proofs.lengthen_into.Tie as tie
 
-mul-put-u32 : tie.Need-overflow-mul-put-u32
+mul-put-u32 : tie.Need-overflow_mul-m
 mul-put-u32 c = search rules
 
-add-put-u32 : tie.Need-overflow-add-put-u32
+add-put-u32 : tie.Need-overflow_add-m
 add-put-u32 c = search rules
 
-put-u32-requires : tie.Need-put-u32-requires
+put-u32-requires : tie.Need-put_u32-requires
 put-u32-requires c κs = search rules
 
-put-u16-requires : tie.Need-put-u16-requires
+put-u16-requires : tie.Need-put_u16-requires
 put-u16-requires c κs = search rules
 
-mul-put-zeros : tie.Need-overflow-mul-put-zeros
+mul-put-zeros : tie.Need-overflow_mul-m-2
 mul-put-zeros c = search rules
 
-put-zeros-requires : tie.Need-put-zeros-requires
+put-zeros-requires : tie.Need-put_zeros-requires
 put-zeros-requires c κs = search rules
 
-put-triples-requires : tie.Need-put-triples-requires
+put-triples-requires : tie.Need-put_triples-requires
 put-triples-requires c κs = search rules
 
-same_length : tie.Need-same-length
+same_length : tie.Need-shape_of-room
 same_length c = search rules
 
 returns : tie.Need-returns
@@ -36,10 +36,10 @@ returns c n =
     let stated = kind.before.before.before.before in
     let s = stated.before.before.before.before in
     long_room s.args.m s.args.bytes.now n s.args.room.now _ _ _ _ s.requires.0.rows_below
-    stated.put-u32.ensures kind.put_u16.ensures zeros.put-zeros.ensures triples.put-triples.ensures
+    stated.put_u32.ensures kind.put_u16.ensures zeros.put_zeros.ensures triples.put_triples.ensures
 
-pub lengthen-into-spec : {M : Type 1} → statement M
-lengthen-into-spec =
+pub lengthen_into_spec : {M : Type 1} → statement M
+lengthen_into_spec =
     tie.close
     (tie.spec
     mul-put-u32

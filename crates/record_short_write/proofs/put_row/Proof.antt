@@ -9,69 +9,69 @@ use Rattle.record_short_write.proofs.put_row.Statement.{statement}
 use Rattle.record_short_write.proofs.put_row.Tie as tie
 
 -- where a row has weight
-abbrev start : tie.Else1 → tie.Start
+abbrev start : tie.Else-counted-eq0 → tie.Start
 start c = c.before.before.before.before
 
-one : (c : tie.Else1) → listed (start c).args.m (start c).args.bytes.now (start c).args.i ≡ (start c).args.i ∷ []
+one : (c : tie.Else-counted-eq0) → listed (start c).args.m (start c).args.bytes.now (start c).args.i ≡ (start c).args.i ∷ []
 one c =
     let a = (start c).args in
-    one_listed a.m a.bytes.now a.i (λ e. c.if1.false (c.before.counted.ensures ∙ e))
+    one_listed a.m a.bytes.now a.i (λ e. c.if-counted-eq0.false (c.counted.ensures ∙ e))
 
 counted-requires : tie.Need-counted-requires
 counted-requires c κs = search rules
 
-returns : tie.Need-returns
+returns : tie.Need-returns-then-counted-eq0
 returns c =
-    let a = c.before.before.before.before.args in
-    let none = none_listed a.m a.bytes.now a.i (sym c.before.counted.ensures ∙ c.if1.true) in
+    let a = c.args in
+    let none = none_listed a.m a.bytes.now a.i (sym c.counted.ensures ∙ c.if-counted-eq0.true) in
     (rw none (omega arith), row_stays a.m a.bytes.now a.i a.at a.room.now none)
 
-mul-u16-at : tie.Need-overflow-mul-u16-at
+mul-u16-at : tie.Need-overflow_mul-i
 mul-u16-at c = search rules
 
-add-u16-at : tie.Need-overflow-add-u16-at
+add-u16-at : tie.Need-overflow_add-i
 add-u16-at c = search rules
 
-u16-at-requires : tie.Need-u16-at-requires
+u16-at-requires : tie.Need-u16_at-y-requires
 u16-at-requires c κs = search rules
 
-mul-u16-at-2 : tie.Need-overflow-mul-u16-at-2
+mul-u16-at-2 : tie.Need-overflow_mul-m
 mul-u16-at-2 c = search rules
 
-add-u16-at-2 : tie.Need-overflow-add-u16-at-2
+add-u16-at-2 : tie.Need-overflow_add-m
 add-u16-at-2 c = search rules
 
-mul-u16-at-3 : tie.Need-overflow-mul-u16-at-3
+mul-u16-at-3 : tie.Need-overflow_mul-i-2
 mul-u16-at-3 c = search rules
 
-add-u16-at-3 : tie.Need-overflow-add-u16-at-3
+add-u16-at-3 : tie.Need-overflow_add-m-2
 add-u16-at-3 c = search rules
 
-u16-at-requires-2 : tie.Need-u16-at-requires-2
+u16-at-requires-2 : tie.Need-u16_at-z-requires
 u16-at-requires-2 c κs = search rules
 
-put-u16-requires : tie.Need-put-u16-requires
+put-u16-requires : tie.Need-put_u16-requires
 put-u16-requires c κs = search rules
 
-add-put-u16 : tie.Need-overflow-add-put-u16
+add-put-u16 : tie.Need-overflow_add-at
 add-put-u16 c = search rules
 
-put-u16-requires-2 : tie.Need-put-u16-requires-2
+put-u16-requires-2 : tie.Need-put_u16-requires-2
 put-u16-requires-2 c κs = search rules
 
-add-put-u16-2 : tie.Need-overflow-add-put-u16-2
+add-put-u16-2 : tie.Need-overflow_add-at-2
 add-put-u16-2 c = search rules
 
-put-u16-requires-3 : tie.Need-put-u16-requires-3
+put-u16-requires-3 : tie.Need-put_u16-requires-3
 put-u16-requires-3 c κs = search rules
 
-add-result : tie.Need-overflow-add-result
+add-result : tie.Need-overflow_add-result
 add-result c = search rules
 
-same_length : tie.Need-same-length
+same_length : tie.Need-shape_of-room
 same_length c = search rules
 
-returns-2 : tie.Need-returns-2
+returns-2 : tie.Need-returns
 returns-2 c =
     let last = c.before.before in
     let second = last.before.before.before.before in
@@ -82,12 +82,12 @@ returns-2 c =
     let a = s.args in
     let one = one Y.before in (
       rw one (omega arith),
-      row_put a.m a.bytes.now a.i a.at _ _ a.room.now _ _ _ (omega (arith, s.pre.1.1)) one Y.u16-at.ensures.0 Z.u16-at2.ensures.0
-          first.put_u16.ensures second.put-u162.ensures last.put-u163.ensures,
+      row_put a.m a.bytes.now a.i a.at _ _ a.room.now _ _ _ (omega (arith, s.requires.1.1)) one Y.u16_at-y.ensures.0 Z.u16_at-z.ensures.0
+          first.put_u16.ensures second.put_u16-2.ensures last.put_u16-3.ensures,
     )
 
-pub put-row-spec : {M : Type 1} → statement M
-put-row-spec =
+pub put_row_spec : {M : Type 1} → statement M
+put_row_spec =
     tie.close
     (tie.spec
     counted-requires

@@ -12,35 +12,35 @@ use borrow.Author.Rules.{rules}
 use Rattle.record_short_write.proofs.put_rows.Statement.{statement}
 use Rattle.record_short_write.proofs.put_rows.Tie as tie
 
-abbrev invariant-loop : tie.invariant-loop
-invariant-loop bytes m room₀ at₀ i₀ room at i =
+abbrev invariant-loop-i : tie.invariant-loop-i
+invariant-loop-i bytes m room₀ at₀ i₀ room at i =
     (i ≤ m) × (length room ≡ length room₀) × (at ≡ 8 + 6 * length (rows_with_weight m bytes i)) × (room ≡ with_rows m bytes i room₀)
 
-abbrev decreases-loop : tie.decreases-loop
-decreases-loop bytes m room₀ at₀ i₀ room at i = m - i
+abbrev decreases-loop-i : tie.decreases-loop-i
+decreases-loop-i bytes m room₀ at₀ i₀ room at i = m - i
 
-loop-holds : tie.Need-loop-init invariant-loop decreases-loop
+loop-holds : tie.Need-loop-i-init invariant-loop-i decreases-loop-i
 unfolding rows_with_weight
 loop-holds c =
     let s = c.before.before in
     (omega arith, refl, omega arith, rows_none s.args.m s.args.bytes.now s.args.room.now (omega (arith, s.requires.1)))
 
-put-row-requires : tie.Need-put-row-requires invariant-loop decreases-loop
+put-row-requires : tie.Need-put_row-at-requires invariant-loop-i decreases-loop-i
 unfolding listed triples_needed
 put-row-requires c κs =
     let test = c.before in
     let l = test.before in
     let s = l.before.before.before in
-    let grow = rows_grow s.args.m s.args.bytes.now l.loop.i s.args.m test.loop-test.true in
-    (s.requires.0, (test.loop-test.true, omega (arith, s.requires.1, l.loop.invariant.1, l.loop.invariant.2, grow)))
+    let grow = rows_grow s.args.m s.args.bytes.now l.loop-i.i s.args.m test.loop-i-test.true in
+    (s.requires.0, (test.loop-i-test.true, omega (arith, s.requires.1, l.loop-i.invariant.1, l.loop-i.invariant.2, grow)))
 
-add-i : tie.Need-overflow-add-i invariant-loop decreases-loop
+add-i : tie.Need-overflow_step-i invariant-loop-i decreases-loop-i
 add-i c = search rules
 
-loop-less : tie.Need-loop-smaller invariant-loop decreases-loop
+loop-less : tie.Need-loop-i-smaller invariant-loop-i decreases-loop-i
 loop-less c = search rules
 
-loop-again : tie.Need-loop-preserved invariant-loop decreases-loop
+loop-again : tie.Need-loop-i-preserved invariant-loop-i decreases-loop-i
 unfolding listed
 loop-again c =
     let put = c.before.before in
@@ -48,28 +48,28 @@ loop-again c =
     let l = test.before in
     let s = l.before.before.before in
     let a = s.args in (
-      omega (arith, test.loop-test.true),
-      omega (arith, l.loop.invariant.1, put.put-row.auto.1.1.1.0),
-      put.put-row.ensures.0 ∙ rw (l.loop.invariant.2, add-one l.loop.i) (omega (arith, rows_more a.m a.bytes.now l.loop.i)),
-      rows_next a.m a.bytes.now a.room.now (omega (arith, s.requires.1)) l.loop.i _
-          (rw (← l.loop.invariant.2, ← l.loop.invariant.3) put.put-row.ensures.1),
+      omega (arith, test.loop-i-test.true),
+      omega (arith, l.loop-i.invariant.1, put.put_row-at.auto.1.1.1.0),
+      put.put_row-at.ensures.0 ∙ rw (l.loop-i.invariant.2, add-one l.loop-i.i) (omega (arith, rows_more a.m a.bytes.now l.loop-i.i)),
+      rows_next a.m a.bytes.now a.room.now (omega (arith, s.requires.1)) l.loop-i.i _
+          (rw (← l.loop-i.invariant.2, ← l.loop-i.invariant.3) put.put_row-at.ensures.1),
     )
 
-same_length : tie.Need-same-length invariant-loop decreases-loop
+same_length : tie.Need-shape_of-room invariant-loop-i decreases-loop-i
 same_length c = search rules
 
-returns : tie.Need-returns invariant-loop decreases-loop
+returns : tie.Need-returns invariant-loop-i decreases-loop-i
 returns c =
     let l = c.before in
-    let all : l.loop.i ≡ l.before.before.before.args.m = omega arith in
-    l.loop.invariant.3 ∙ rw all
+    let all : l.loop-i.i ≡ l.args.m = omega arith in
+    l.loop-i.invariant.3 ∙ rw all
 
-pub put-rows-spec : {M : Type 1} → statement M
-put-rows-spec =
+pub put_rows_spec : {M : Type 1} → statement M
+put_rows_spec =
     tie.close
     (tie.spec
-    invariant-loop
-    decreases-loop
+    invariant-loop-i
+    decreases-loop-i
     loop-holds
     put-row-requires
     add-i

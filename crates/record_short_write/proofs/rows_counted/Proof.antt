@@ -11,57 +11,57 @@ use borrow.Author.Rules.{rules}
 use Rattle.record_short_write.proofs.rows_counted.Statement.{statement}
 use Rattle.record_short_write.proofs.rows_counted.Tie as tie
 
-abbrev invariant-loop : tie.invariant-loop
-invariant-loop bytes m count₀ i₀ count i = (i ≤ m) × (count ≡ length (rows_with_weight m bytes i))
+abbrev invariant-loop-i : tie.invariant-loop-i
+invariant-loop-i bytes m count₀ i₀ count i = (i ≤ m) × (count ≡ length (rows_with_weight m bytes i))
 
-abbrev decreases-loop : tie.decreases-loop
-decreases-loop bytes m count₀ i₀ count i = m - i
+abbrev decreases-loop-i : tie.decreases-loop-i
+decreases-loop-i bytes m count₀ i₀ count i = m - i
 
 -- one row more
-more : (c : tie.After-counted invariant-loop decreases-loop) → (let l = c.before.before in let a = l.before.before.args in
-    l.loop.count + c.counted.result ≡ length (rows_with_weight a.m a.bytes.now (l.loop.i + 1)))
+more : (c : tie.After-counted-count invariant-loop-i decreases-loop-i) → (let l = c.before.before in let a = l.args in
+    l.loop-i.count + c.counted-count.result ≡ length (rows_with_weight a.m a.bytes.now (l.loop-i.i + 1)))
 unfolding listed
 more c =
     let l = c.before.before in
-    let a = l.before.before.args in
-    rw (l.loop.invariant.1, c.counted.ensures, add-one l.loop.i) (sym (rows_more a.m a.bytes.now l.loop.i))
+    let a = l.args in
+    rw (l.loop-i.invariant.1, c.counted-count.ensures, add-one l.loop-i.i) (sym (rows_more a.m a.bytes.now l.loop-i.i))
 
-loop-holds : tie.Need-loop-init invariant-loop decreases-loop
+loop-holds : tie.Need-loop-i-init invariant-loop-i decreases-loop-i
 unfolding rows_with_weight
 loop-holds c = (omega arith, omega arith)
 
-counted-requires : tie.Need-counted-requires invariant-loop decreases-loop
-counted-requires c κs = (c.before.before.before.requires, c.loop-test.true)
+counted-requires : tie.Need-counted-count-requires invariant-loop-i decreases-loop-i
+counted-requires c κs = (c.requires, c.loop-i-test.true)
 
-add-count : tie.Need-overflow-add-count invariant-loop decreases-loop
+add-count : tie.Need-overflow_add-count invariant-loop-i decreases-loop-i
 unfolding listed
 add-count c =
     let l = c.before.before in
     let s = l.before.before in
-    omega (arith, more c, rows_few s.args.m s.args.bytes.now (l.loop.i + 1), c.before.loop-test.true, s.requires.few_rows)
+    omega (arith, more c, rows_few s.args.m s.args.bytes.now (l.loop-i.i + 1), c.loop-i-test.true, s.requires.few_rows)
 
-add-i : tie.Need-overflow-add-i invariant-loop decreases-loop
+add-i : tie.Need-overflow_step-i invariant-loop-i decreases-loop-i
 add-i c = search rules
 
-loop-less : tie.Need-loop-smaller invariant-loop decreases-loop
+loop-less : tie.Need-loop-i-smaller invariant-loop-i decreases-loop-i
 loop-less c = search rules
 
-loop-again : tie.Need-loop-preserved invariant-loop decreases-loop
-loop-again c = (omega (arith, c.before.loop-test.true), more c)
+loop-again : tie.Need-loop-i-preserved invariant-loop-i decreases-loop-i
+loop-again c = (omega (arith, c.loop-i-test.true), more c)
 
-returns : tie.Need-returns invariant-loop decreases-loop
+returns : tie.Need-returns invariant-loop-i decreases-loop-i
 unfolding triples_needed
 returns c =
     let l = c.before in
-    let all : l.loop.i ≡ l.before.before.args.m = omega arith in
-    l.loop.invariant.1 ∙ rw all
+    let all : l.loop-i.i ≡ l.args.m = omega arith in
+    l.loop-i.invariant.1 ∙ rw all
 
-pub rows-counted-spec : {M : Type 1} → statement M
-rows-counted-spec =
+pub rows_counted_spec : {M : Type 1} → statement M
+rows_counted_spec =
     tie.close
     (tie.spec
-    invariant-loop
-    decreases-loop
+    invariant-loop-i
+    decreases-loop-i
     loop-holds
     counted-requires
     add-count

@@ -15,25 +15,25 @@ use borrow.Author.Rules.{rules}
 use Rattle.record_write.proofs.write_out.Statement.{statement}
 use Rattle.record_write.proofs.write_out.Tie as tie
 
-put-u32-requires : tie.Need-put-u32-requires
+put-u32-requires : tie.Need-put_u32-requires
 put-u32-requires c κs = search rules
 
-put-u16-requires : tie.Need-put-u16-requires
+put-u16-requires : tie.Need-put_u16-requires
 put-u16-requires c κs = search rules
 
-sub-write-body : tie.Need-overflow-sub-write-body
+sub-write-body : tie.Need-slice_bounds-write_body-count
 sub-write-body c = search rules
 
-part-write-body-start : tie.Need-slice-bounds-write-body-start
+part-write-body-start : tie.Need-slice_bounds-write_body-start
 part-write-body-start c = search rules
 
-part-write-body-end : tie.Need-slice-bounds-write-body-end
+part-write-body-end : tie.Need-slice_bounds-write_body-end
 part-write-body-end c = search rules
 
-write-body-requires : tie.Need-write-body-requires
+write-body-requires : tie.Need-write_body-requires
 write-body-requires c κs = search rules
 
-same_length : tie.Need-same-length
+same_length : tie.Need-shape_of-room
 same_length c = search rules
 
 returns : tie.Need-returns
@@ -45,11 +45,11 @@ returns c =
     let a = s.args in
     let c0 : Counts = record { n = a.n; m = a.m; ms = a.ms } in
     let bytes = body_bytes a.kind c0 a.values.now in
-    let length-put = after-put-u32.put-u32 in
+    let length-put = after-put-u32.put_u32 in
     let kind-put = after-put-u16.put_u16 in
-    let body = after-write-body.write-body in
+    let body = after-write-body.write_body in
     let stated = body_long a.kind c0 a.values.now s.requires.fitting s.requires.known ∙ sym s.requires.long_is in
-    let tail = tail_sets kind-put.new.0 6 bytes (omega (arith, stated, s.requires.room_for, length-put.auto, kind-put.auto)) body.ensures in
+    let tail = tail_sets kind-put.new.room 6 bytes (omega (arith, stated, s.requires.room_for, length-put.auto, kind-put.auto)) body.ensures in
     let second =
     sets_both length-put.new.0 4 6 (digits 2 a.kind) bytes
     (kind-put.ensures ∙ put_is length-put.new.0 (digits 2 a.kind) 4 2 (length_digits 2 a.kind) (omega (arith, stated, s.requires.room_for, length-put.auto)))
@@ -58,8 +58,8 @@ returns c =
     (length-put.ensures ∙ put_is a.room.now (digits 4 a.long) 0 4 (length_digits 4 a.long) (omega (arith, s.requires.room_for)))
     second (ap (λ k. 0 + k) (sym (length_digits 4 a.long)))
 
-pub write-out-spec : {M : Type 1} → statement M
-write-out-spec =
+pub write_out_spec : {M : Type 1} → statement M
+write_out_spec =
     tie.close
     (tie.spec
     put-u32-requires
