@@ -5,7 +5,8 @@ use Prim.Native.Nat.{ℕ, ◌≤◌}
 use mathlib.Core.List.{List}
 use lib.ListN.{length, take}
 use contract.Lifetimes.{Lfts}
-use denote.Ref.{Bor}
+use denote.Bor.{Bor}
+use denote.MutBor.{MutBor}
 use denote.Triple.Clauses.{AtExit}
 use borrow.Fn.Kinds.{ended_of}
 use Rattle.endian.specs.Numbers.{Bytes}
@@ -20,17 +21,17 @@ use Rattle.record_short_write.proofs.lengthen.Reads as lengthen-reads
 abbrev AfterShorten : Lfts 2 → Type 0
 AfterShorten κs = AtExit (ended_of 2 shorten-kinds.ps shorten-kinds.r) κs
 
-abbrev Shortened : (κs : Lfts 2) (bytes : Bor (List ℕ)) (n m : ℕ) (room : Bor (List ℕ)) → Writing → AfterShorten κs → Type 0
+abbrev Shortened : (κs : Lfts 2) (bytes : Bor (List ℕ)) (n m : ℕ) (room : MutBor (List ℕ)) → Writing → AfterShorten κs → Type 0
 Shortened κs bytes n m room = shorten-reads.Learnt κs (bytes, (n, (m, (room, tt))))
 
 abbrev AfterLengthen : Lfts 2 → Type 0
 AfterLengthen κs = AtExit (ended_of 2 lengthen-kinds.ps lengthen-kinds.r) κs
 
-abbrev Lengthened : (κs : Lfts 2) (bytes : Bor (List ℕ)) (n m : ℕ) (room : Bor (List ℕ)) → Writing → AfterLengthen κs → Type 0
+abbrev Lengthened : (κs : Lfts 2) (bytes : Bor (List ℕ)) (n m : ℕ) (room : MutBor (List ℕ)) → Writing → AfterLengthen κs → Type 0
 Lengthened κs bytes n m room = lengthen-reads.Learnt κs (bytes, (n, (m, (room, tt))))
 
 -- `moved` are the bytes that the first call wrote, `next` the room of the second
-module _ (bytes : Bor (List ℕ)) (n m : ℕ) (room moved next : Bor (List ℕ)) (all : Bytes bytes.now) (fits : length bytes.now ≤ length next.now)
+module _ (bytes : Bor (List ℕ)) (n m : ℕ) (moved : Bor (List ℕ)) (room next : MutBor (List ℕ)) (all : Bytes bytes.now) (fits : length bytes.now ≤ length next.now)
     (κs λs : Lfts 2) (s : AfterShorten κs) (t : AfterLengthen λs) {v w : Writing} where
   pub shortened_then_lengthened : Shortened κs bytes n m room v s → v.number ≡ 0 → moved.now ≡ take v.written s.1.1.1.0.now
       → Lengthened λs moved n m next w t → Holds w next.now t.1.1.1.0.now bytes.now

@@ -7,7 +7,8 @@ use mathlib.Core.List.{List, ◌++◌}
 use lib.IntN.{ℤ}
 use lib.ListN.{length, take, drop}
 use contract.Lifetimes.{Lfts}
-use denote.Ref.{Bor}
+use denote.Bor.{Bor}
+use denote.MutBor.{MutBor}
 use denote.Triple.Clauses.{AtExit}
 use borrow.Fn.Kinds.{ended_of}
 use Rattle.endian.specs.Numbers.{Bytes}
@@ -26,19 +27,19 @@ use Rattle.record_write.proofs.write_record.Reads as writer-reads
 abbrev AfterLoop : Lfts 2 → Type 0
 AfterLoop κs = AtExit (ended_of 2 loop-kinds.ps loop-kinds.r) κs
 
-abbrev LoopRead : (κs : Lfts 2) (bytes : Bor (List ℕ)) (lent : Bor (List ℤ)) → Reading → AfterLoop κs → Type 0
+abbrev LoopRead : (κs : Lfts 2) (bytes : Bor (List ℕ)) (lent : MutBor (List ℤ)) → Reading → AfterLoop κs → Type 0
 LoopRead κs bytes lent = loop-reads.Learnt κs (bytes, (lent, tt))
 
 abbrev AfterCertificate : Lfts 2 → Type 0
 AfterCertificate κs = AtExit (ended_of 2 certificate-kinds.ps certificate-kinds.r) κs
 
-abbrev CertificateRead : (κs : Lfts 2) (bytes : Bor (List ℕ)) (n m : ℕ) (lent : Bor (List ℤ)) → Reading → AfterCertificate κs → Type 0
+abbrev CertificateRead : (κs : Lfts 2) (bytes : Bor (List ℕ)) (n m : ℕ) (lent : MutBor (List ℤ)) → Reading → AfterCertificate κs → Type 0
 CertificateRead κs bytes n m lent = certificate-reads.Learnt κs (bytes, (n, (m, (lent, tt))))
 
 abbrev AfterWriting : Lfts 2 → Type 0
 AfterWriting κs = AtExit (ended_of 2 writer-kinds.ps writer-kinds.r) κs
 
-abbrev Written : (κs : Lfts 2) (kind n m : ℕ) (zs : Bor (List ℤ)) (room : Bor (List ℕ)) → Writing → AfterWriting κs → Type 0
+abbrev Written : (κs : Lfts 2) (kind n m : ℕ) (zs : Bor (List ℤ)) (room : MutBor (List ℕ)) → Writing → AfterWriting κs → Type 0
 Written κs kind n m zs room = writer-reads.Learnt κs (kind, (n, (m, (zs, (room, tt)))))
 
 -- a writing is done, and the room then begins with these bytes and is as it was past them
@@ -53,7 +54,7 @@ pub record Read (r : Reading) (lent after : List ℤ) (kind n m : ℕ) (zs : Lis
 
 -- ---- read, then written: `given` are the values that were read
 
-module _ (bytes : Bor (List ℕ)) (all : Bytes bytes.now) (lent : Bor (List ℤ)) (room : Bor (List ℕ)) (fits : length bytes.now ≤ length room.now)
+module _ (bytes : Bor (List ℕ)) (all : Bytes bytes.now) (lent : MutBor (List ℤ)) (room : MutBor (List ℕ)) (fits : length bytes.now ≤ length room.now)
     (κs λs : Lfts 2) (given : Bor (List ℤ)) {r : Reading} {w : Writing} (t : AfterWriting λs) where
   pub loop_read_then_written : (s : AfterLoop κs) → LoopRead κs bytes lent r s → r.number ≡ 0
       → given.now ≡ take r.count s.1.0.now
@@ -73,7 +74,7 @@ module _ (bytes : Bor (List ℕ)) (all : Bytes bytes.now) (lent : Bor (List ℤ)
 
 -- ---- written, then read: `bytes` are those that were written
 
-module _ (n m : ℕ) (zs : Bor (List ℤ)) (room : Bor (List ℕ)) (lent : Bor (List ℤ)) (fits : length zs.now ≤ length lent.now)
+module _ (n m : ℕ) (zs : Bor (List ℤ)) (room : MutBor (List ℕ)) (lent : MutBor (List ℤ)) (fits : length zs.now ≤ length lent.now)
     (κs λs : Lfts 2) (bytes : Bor (List ℕ)) {w : Writing} {r : Reading} (t : AfterWriting λs) where
   pub loop_written_then_read : (s : AfterLoop κs) → Written λs 1 n m zs room w t → w.number ≡ 0
       → bytes.now ≡ take w.written t.1.1.1.1.0.now

@@ -34,7 +34,7 @@ use Rattle.verdict_paths.proofs.PathDemands.{kind_1_by_rows}
 use Rattle.verdict_short.specs.ShortContents.{loop_of, ranking_of}
 
 -- both records of a pair are sound
-pub record ShortSound (p : ShortPair) : Type 0 where
+pub record ShortPairSound (p : ShortPair) : Type 0 where
   pub loop_sound : first sound (loop_record p.loopbytes) ≡ done
   pub certificate_sound : first (sound_short (variables_of p) (rows_for p)) (bytes_alone p.certificate) ≡ done
 
@@ -44,18 +44,18 @@ state_given p state = record { n = variables_of p; state = state }
 
 -- what an accepted short ranking is, in judging and in bound
 pub record ShortAccepted (p : ShortPair) (lent : List ℤ) : Type 0 where
-  pub both_sound : ShortSound p
+  pub both_sound : ShortPairSound p
   pub room : variables_of p ≤ length lent
   pub holds : RankingHolds (loop_of p) (ranking_of p)
 
 pub record ShortBounded (p : ShortPair) (state : List ℤ) : Type 0 where
-  pub both_sound : ShortSound p
+  pub both_sound : ShortPairSound p
   pub state_in : StateIn (state_given p state)
   pub holds : RankingHolds (loop_of p) (ranking_of p)
 
 -- ---- the record that a sound pair's certificate stands for
 
-module _ (p : ShortPair) (s : ShortSound p) where
+module _ (p : ShortPair) (s : ShortPairSound p) where
   pub certificate_says : ShortSound (variables_of p) (rows_for p) p.certificate
   certificate_says = short_sound (variables_of p) (rows_for p) p.certificate s.certificate_sound
 

@@ -32,7 +32,7 @@ use Rattle.verdict_paths.proofs.PathsAccepted.{paths_accepted_exactly_when}
 use Rattle.verdict_short.specs.Answers.{answered, rank_answered, bounded_answered}
 use Rattle.verdict_short.specs.ShortContents.{loop_of, ranking_of}
 use Rattle.verdict_short.specs.ShortJudging.{ShortPair, variables_of, rows_for, short_records, short_judged, short_bounded, of_short, short_pair}
-use Rattle.verdict_short.proofs.LongJudged.{ShortSound, ShortAccepted, ShortBounded, held, judged_as_sound, long_kind, long_exactly}
+use Rattle.verdict_short.proofs.LongJudged.{ShortPairSound, ShortAccepted, ShortBounded, held, judged_as_sound, long_kind, long_exactly}
 use Rattle.verdict_short.proofs.LongJudged.{long_kind_bound, long_exactly_bound}
 use Rattle.verdict_short.proofs.ShortAsLong.{by_short}
 use Rattle.verdict_short.proofs.ShortBridges.{short_when, answered_short, answered_of_paths, bounded_short}
@@ -43,7 +43,7 @@ records_named : (p : ShortPair) → Named short_records p
 unfolding short_records sound
 records_named p = (zero_done sound (loop_record p.loopbytes) refl, (short_named (variables_of p) (rows_for p) p.certificate, tt))
 
-zero_sound : (p : ShortPair) → number_said (said short_records p) ≡ 0 → ShortSound p
+zero_sound : (p : ShortPair) → number_said (said short_records p) ≡ 0 → ShortPairSound p
 unfolding short_records
 zero_sound p h =
     let done_each = said_agrees short_records p (zero_agreed short_records p (records_named p) h) in
@@ -85,7 +85,7 @@ module _ (loopbytes certificate : List ℕ) (short : of_short certificate ≡ tr
   -- ---- judging
 
   module _ (lent : List ℤ) where
-    pub judged_zero_sound : (answered loopbytes certificate lent).number ≡ 0 → ShortSound p
+    pub judged_zero_sound : (answered loopbytes certificate lent).number ≡ 0 → ShortPairSound p
     judged_zero_sound h =
         either (of_paths loopbytes)
         (λ paths. absurd (paths_refuse loopbytes certificate lent paths short h))
@@ -118,7 +118,7 @@ module _ (loopbytes certificate : List ℕ) (short : of_short certificate ≡ tr
   -- ---- bound
 
   module _ (state : List ℤ) where
-    pub bounded_zero_sound : (bounded_answered loopbytes certificate state).verdict.number ≡ 0 → ShortSound p
+    pub bounded_zero_sound : (bounded_answered loopbytes certificate state).verdict.number ≡ 0 → ShortPairSound p
     bounded_zero_sound h =
         let answer = bounded_short loopbytes certificate state short in
         let by = (by_short loopbytes certificate short state).2 in

@@ -38,7 +38,7 @@ use Rattle.verdict_short.specs.Answers.{answered, rank_answered, bounded_answere
 use Rattle.verdict_short.specs.ShortContents.{stood_for, loop_of, ranking_of}
 use Rattle.verdict_short.specs.ShortJudging.{ShortPair, variables_of, rows_for, long_of, of_short, short_pair}
 use Rattle.verdict_short.proofs.LongHeld.{stood_for_in}
-use Rattle.verdict_short.proofs.LongJudged.{ShortSound, certificate_says, judged_as_sound, long_kind}
+use Rattle.verdict_short.proofs.LongJudged.{ShortPairSound, certificate_says, judged_as_sound, long_kind}
 use Rattle.verdict_short.proofs.ShortAccepted.{judged_zero_sound, short_accepted_exactly_when, short_answers}
 use Rattle.verdict_short.proofs.ShortAccepted.{short_bounded_exactly_when, short_bound_is}
 use Rattle.verdict_short.proofs.ShortAsLong.{loop_refused_alike}
@@ -46,7 +46,7 @@ use Rattle.verdict_short.proofs.ShortBridges.{answered_of_paths, answered_of_row
 
 -- ---- the promise, of a sound pair
 
-sound_nonneg : (p : ShortPair) → ShortSound p → NonNegative (ranking_of p)
+sound_nonneg : (p : ShortPair) → ShortPairSound p → NonNegative (ranking_of p)
 unfolding ranking_of stood_for
 sound_nonneg p s =
     let held = stood_for_in (variables_of p) (rows_for p) p.certificate (certificate_says p s) in
@@ -59,7 +59,7 @@ Promised p =
     let c = ranking_of p in
     Bounds l (λ x. Unit {0}) (rank l c) (start l c) (fall l c)
 
-promised : (p : ShortPair) → ShortSound p → RankingHolds (loop_of p) (ranking_of p) → Promised p
+promised : (p : ShortPair) → ShortPairSound p → RankingHolds (loop_of p) (ranking_of p) → Promised p
 promised p s holds = ranking_bounds_runs _ _ (sound_nonneg p s) holds
 
 same_shown : {a b c d : ℤ} → Outcomes.Ranking a b ≡ Outcomes.Ranking c d → (a ≡ c) × (b ≡ d)

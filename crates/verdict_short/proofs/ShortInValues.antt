@@ -22,7 +22,7 @@ use Rattle.verdict_short.specs.Answers.{answered, rank_answered, bounded_answere
 use Rattle.verdict_short.specs.ShortContents.{loop_of, ranking_of}
 use Rattle.verdict_short.specs.ShortJudging.{ShortPair, variables_of, rows_for, of_short, short_pair}
 use Rattle.verdict_short.specs.ShortValues.{Triple, TriplesIn, triples_record, ranking_by}
-use Rattle.verdict_short.proofs.LongJudged.{ShortSound}
+use Rattle.verdict_short.proofs.LongJudged.{ShortPairSound}
 use Rattle.verdict_short.proofs.ShortAccepted.{short_accepted_exactly_when, short_answers, short_bounded_exactly_when, short_bound_is}
 use Rattle.verdict_short.proofs.ShortReadBack.{kind_read, triples_done, triples_read_back}
 use Rattle.verdict_short.proofs.ShortToldExactly.{told_exactly_short, told_exactly_short_bound}
@@ -49,7 +49,7 @@ module _ (n m : ℕ) (rs : List Row) (room : List ℕ) (ts : List Triple) (g : L
   ranking_is_held = rw counts_held.1 (triples_read_back n m ts g.counts_in h)
 
   -- and are sound
-  pub made_sound : ShortSound made
+  pub made_sound : ShortPairSound made
   made_sound =
       record {
         loop_sound = (loop_held n m rs room g).loop_sound;

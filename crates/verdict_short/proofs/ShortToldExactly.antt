@@ -36,18 +36,18 @@ use Rattle.verdict_short.specs.Answers.{answered, bounded_answered}
 use Rattle.verdict_short.specs.ShortContents.{loop_of, ranking_of}
 use Rattle.verdict_short.specs.ShortJudging.{ShortPair, variables_of, rows_for, short_records, short_judged, short_bounded}
 use Rattle.verdict_short.specs.ShortJudging.{of_short, short_pair}
-use Rattle.verdict_short.proofs.LongJudged.{ShortSound, state_given, held, judged_as_sound, long_kind, long_both, long_kind_bound, long_both_bound}
+use Rattle.verdict_short.proofs.LongJudged.{ShortPairSound, state_given, held, judged_as_sound, long_kind, long_both, long_kind_bound, long_both_bound}
 use Rattle.verdict_short.proofs.ShortAsLong.{by_short}
 use Rattle.verdict_short.proofs.ShortBridges.{short_when, answered_short, answered_of_paths, bounded_short}
 
 -- what a refusal by a condition says of a judging, and of a bound call
 pub record ShortFails (p : ShortPair) (lent : List ℤ) (number place : ℕ) : Type 0 where
-  pub both_sound : ShortSound p
+  pub both_sound : ShortPairSound p
   pub room : variables_of p ≤ length lent
   pub fails : RankingFails (loop_of p) (ranking_of p) number place
 
 pub record ShortFailsBound (p : ShortPair) (state : List ℤ) (number place : ℕ) : Type 0 where
-  pub both_sound : ShortSound p
+  pub both_sound : ShortPairSound p
   pub state_in : StateIn (state_given p state)
   pub fails : RankingFails (loop_of p) (ranking_of p) number place
 
@@ -64,7 +64,7 @@ unfolding short_bounded
 agreed_so_bound agreed p state k none h = refl
 agreed_so_bound (refusal about n q) p state k none h = absurd (none h)
 
-agreed_sound : (p : ShortPair) → said short_records p ≡ agreed → ShortSound p
+agreed_sound : (p : ShortPair) → said short_records p ≡ agreed → ShortPairSound p
 unfolding short_records
 agreed_sound p h = let each = said_agrees short_records p h in record { loop_sound = each.0; certificate_sound = each.1.0 }
 
@@ -99,7 +99,7 @@ module _ (loopbytes certificate : List ℕ) (short : of_short certificate ≡ tr
     as_short rows =
         (answered_short loopbytes certificate lent (short_when loopbytes certificate rows short)).0 ∙ (by_short loopbytes certificate short lent).0
 
-    told_sound : (k q : ℕ) → 20 < k → answered loopbytes certificate lent ≡ refusal_of 2 k q → ShortSound p
+    told_sound : (k q : ℕ) → 20 < k → answered loopbytes certificate lent ≡ refusal_of 2 k q → ShortPairSound p
     told_sound k q high h =
         either (of_paths loopbytes)
         (λ paths. absurd (paths_tell_none loopbytes certificate lent paths short k q high h))
@@ -130,7 +130,7 @@ module _ (loopbytes certificate : List ℕ) (short : of_short certificate ≡ tr
     pub as_short_bound : bounded_answered loopbytes certificate state ≡ short_bounded (said short_records p) p state
     as_short_bound = bounded_short loopbytes certificate state short ∙ (by_short loopbytes certificate short state).2
 
-    told_sound_bound : (k q : ℕ) → 20 < k → bounded_answered loopbytes certificate state ≡ record { verdict = refusal_of 2 k q; bound = 0 } → ShortSound p
+    told_sound_bound : (k q : ℕ) → 20 < k → bounded_answered loopbytes certificate state ≡ record { verdict = refusal_of 2 k q; bound = 0 } → ShortPairSound p
     told_sound_bound k q high h =
         let number_is = ap (λ (b : Bounded). b.verdict.number) (sym as_short_bound ∙ h) in
         agreed_sound p (agreed_so_bound (said short_records p) p state k (records_low p k high) number_is)

@@ -17,7 +17,7 @@ use Rattle.verdict_paths.proofs.PathDemands.{kind_1_by_rows}
 use Rattle.verdict_settling.specs.AnswersByKind.{of_settling}
 use Rattle.verdict_short.specs.Answers.{answered, rank_answered, bounded_answered}
 use Rattle.verdict_short.specs.ShortJudging.{ShortPair, variables_of, rows_for, long_of, of_short, short_pair}
-use Rattle.verdict_short.proofs.LongJudged.{ShortSound, judged_as_sound}
+use Rattle.verdict_short.proofs.LongJudged.{ShortPairSound, judged_as_sound}
 use Rattle.verdict_short.proofs.ShortBridges.{answered_of_rows, bounded_of_rows}
 
 module _ (loopbytes ranking : List ℕ) (all : Bytes ranking) (loop_sound : first sound (loop_record loopbytes) ≡ done) where
@@ -34,7 +34,7 @@ module _ (loopbytes ranking : List ℕ) (all : Bytes ranking) (loop_sound : firs
     was_sound : LongSound n m ranking
     was_sound = long_sound n m ranking room told
 
-    moved : ShortSound p
+    moved : ShortPairSound p
     unfolding variables_of rows_for
     moved = record { loop_sound = loop_sound; certificate_sound = short_done n m ranking was_sound }
 

@@ -8,40 +8,40 @@ use borrow.Author.Rules.{rules}
 use Rattle.judge.proofs.by_lasso.Statement.{statement}
 use Rattle.judge.proofs.by_lasso.Tie as tie
 
-lasso-record-requires : tie.Need-lasso-record-requires
+lasso-record-requires : tie.Need-lasso_record-said-requires
 lasso-record-requires c κs = search rules
 
 refused-requires : tie.Need-refused-requires
 refused-requires c κs = search rules
 
-returns : tie.Need-returns
+returns : tie.Need-returns-then-said-ne0
 unfolding kind_of wants_of
 returns c =
     let called = c.before.before.before in
     let s = called.before.before.before in
     let a = s.args in
-    let v = called.lasso-record in
-    let told = body_refused a.loopbytes.now a.n a.m s.requires.0 a.certificate.now 4 v.result v.ensures refl c.before.if1.true a.rank.now in
+    let v = called.lasso_record-said in
+    let told = body_refused a.loopbytes.now a.n a.m s.requires.0 a.certificate.now 4 v.result v.ensures refl c.if-said-ne0.true a.rank.now in
     (c.refused.ensures ∙ told.0, told.1)
 
-judge-ranked-requires : tie.Need-judge-ranked-requires
+judge-ranked-requires : tie.Need-judge_ranked-requires
 unfolding kind_of wants_of has_rank
 judge-ranked-requires c κs =
     let passed = c.before in
     let called = passed.before.before in
     let s = called.before.before.before in
     let a = s.args in
-    let v = called.lasso-record in
-    (s.requires.0, body_ranks a.loopbytes.now a.n a.m s.requires.0 a.certificate.now 4 v.result v.ensures (record { ranking = true; exclusion = true; lasso = true }) refl passed.if1.false s.requires.1.numbered refl)
+    let v = called.lasso_record-said in
+    (s.requires.0, body_ranks a.loopbytes.now a.n a.m s.requires.0 a.certificate.now 4 v.result v.ensures (record { ranking = true; exclusion = true; lasso = true }) refl passed.if-said-ne0.false s.requires.1.numbered refl)
 
-same_length : tie.Need-same-length
+same_length : tie.Need-shape_of-rank
 same_length c = search rules
 
-returns-2 : tie.Need-returns-2
+returns-2 : tie.Need-returns
 returns-2 c = search rules
 
-pub by-lasso-spec : {M : Type 1} → statement M
-by-lasso-spec =
+pub by_lasso_spec : {M : Type 1} → statement M
+by_lasso_spec =
     tie.close
     (tie.spec
     lasso-record-requires

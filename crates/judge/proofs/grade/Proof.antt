@@ -3,16 +3,16 @@ use Rattle.verdict.specs.Outcomes.{grade_of}
 use Rattle.judge.proofs.grade.Statement.{statement}
 use Rattle.judge.proofs.grade.Tie as tie
 
-whole-step-requires : tie.Need-whole-step-requires
-whole-step-requires c κs = c.before.requires
+whole-step-requires : tie.Need-whole_step-requires
+whole-step-requires c κs = c.requires
 
-returns : tie.Need-returns
+returns : tie.Need-returns-then-whole_step
 unfolding grade_of
-returns c = rw (← c.before.whole-step.ensures, c.if1.true)
+returns c = rw (← c.whole_step.ensures, c.if-whole_step.true)
 
-returns-2 : tie.Need-returns-2
+returns-2 : tie.Need-returns-else-whole_step
 unfolding grade_of
-returns-2 c = rw (← c.before.whole-step.ensures, c.if1.false)
+returns-2 c = rw (← c.whole_step.ensures, c.if-whole_step.false)
 
-pub grade-spec : {M : Type 1} → statement M
-grade-spec = tie.close (tie.spec whole-step-requires returns returns-2)
+pub grade_spec : {M : Type 1} → statement M
+grade_spec = tie.close (tie.spec whole-step-requires returns returns-2)

@@ -9,7 +9,7 @@ use borrow.Author.Rules.{rules}
 use Rattle.judge.proofs.judge_excluded.Statement.{statement}
 use Rattle.judge.proofs.judge_excluded.Tie as tie
 
-exclusion-requires : tie.Need-exclusion-requires
+exclusion-requires : tie.Need-exclusion-fault-requires
 exclusion-requires c κs =
     let s = c.before.before in
     let l = s.requires.0 in
@@ -18,15 +18,15 @@ exclusion-requires c κs =
 refused-requires : tie.Need-refused-requires
 refused-requires c κs = search rules
 
-returns : tie.Need-returns
+returns : tie.Need-returns-then-fault-ne0
 returns c =
     let called = c.before.before.before in
     let s = called.before.before.before in
     let a = s.args in
     λ lent.
     let told =
-    exclusion_refused a.loopbytes.now a.n a.m s.requires.0 a.certificate.now lent s.requires.1 called.exclusion.result called.exclusion.ensures
-    c.before.if1.true
+    exclusion_refused a.loopbytes.now a.n a.m s.requires.0 a.certificate.now lent s.requires.1 called.exclusion-fault.result called.exclusion-fault.ensures
+    c.if-fault-ne0.true
     in
     (c.refused.ensures ∙ told.0, told.1)
 
@@ -40,7 +40,7 @@ grade-requires c κs =
 accepted-requires : tie.Need-accepted-requires
 accepted-requires c κs = search rules
 
-returns-2 : tie.Need-returns-2
+returns-2 : tie.Need-returns
 returns-2 c =
     let graded = c.before in
     let passed = graded.before in
@@ -49,13 +49,13 @@ returns-2 c =
     let a = s.args in
     λ lent.
     let told =
-    exclusion_accepted a.loopbytes.now a.n a.m s.requires.0 a.certificate.now lent s.requires.1 called.exclusion.result called.exclusion.ensures
-    passed.if1.false
+    exclusion_accepted a.loopbytes.now a.n a.m s.requires.0 a.certificate.now lent s.requires.1 called.exclusion-fault.result called.exclusion-fault.ensures
+    passed.if-fault-ne0.false
     in
     (c.accepted.ensures ∙ rw graded.grade.ensures told.0, told.1)
 
-pub judge-excluded-spec : {M : Type 1} → statement M
-judge-excluded-spec =
+pub judge_excluded_spec : {M : Type 1} → statement M
+judge_excluded_spec =
     tie.close
     (tie.spec
     exclusion-requires

@@ -16,23 +16,23 @@ use Rattle.judge.proofs.judge_ranked.Tie as tie
 
 -- ---- once the room is there: the start of the call, and the room
 
-module _ (c : tie.Else1) where
+module _ (c : tie.Else-rank-n) where
   abbrev s : tie.Start
   s = c.before.before.before
 
   room : s.args.n ≤ length s.args.rank.now
-  room = omega (arith, c.if1.false)
+  room = omega (arith, c.if-rank-n.false)
 
 refused-requires : tie.Need-refused-requires
 refused-requires c κs = search rules
 
-returns : tie.Need-returns
+returns : tie.Need-returns-then-rank-n
 returns c =
     let s = c.before.before.before.before in
     let a = s.args in
     let sound = s.requires.1 in
     let told =
-    short_list a.loopbytes.now a.n a.m s.requires.0 a.certificate.now a.rank.now (kind_of a.kind) sound.as_kind sound.ranks c.before.if1.true
+    short_list a.loopbytes.now a.n a.m s.requires.0 a.certificate.now a.rank.now (kind_of a.kind) sound.as_kind sound.ranks c.if-rank-n.true
     in
     (c.refused.ensures ∙ told.0, told.1)
 
@@ -41,77 +41,77 @@ returns c =
 ranking-requires : tie.Need-ranking-requires
 ranking-requires c κs =
     let arm = c.before in
-    let p = (s arm.before).pre in
+    let p = (s arm.before).requires in
     let l = p.0 in
-    (rows_in _ _ _ l, n_few _ _ _ l, m_few _ _ _ l, ranking_long _ _ _ l certificates_judged _ (as_ranking p.1 arm.match.keys1), room arm.before)
+    (rows_in _ _ _ l, n_few _ _ _ l, m_few _ _ _ l, ranking_long _ _ _ l certificates_judged _ (as_ranking p.1 arm.in-2.is), room arm.before)
 
-ranked-verdict-requires : tie.Need-ranked-verdict-requires
+ranked-verdict-requires : tie.Need-ranked_verdict-requires
 ranked-verdict-requires c κs = search rules
 
-same_length : tie.Need-same-length
+same_length : tie.Need-shape_of-rank-in-2
 same_length c = search rules
 
-returns-2 : tie.Need-returns-2
+returns-2 : tie.Need-returns-in-2
 returns-2 c =
-    let called = c.before.before.ranking in
+    let called = c.ranking in
     let arm = c.before.before.before.before in
     let a = (s arm.before).args in
-    let l = (s arm.before).pre.0 in
-    let sound = (s arm.before).pre.1 in
+    let l = (s arm.before).requires.0 in
+    let sound = (s arm.before).requires.1 in
     let by =
-    ranking_told_lem a.loopbytes.now a.n a.m l certificates_judged a.certificate.now (as_ranking sound arm.match.keys1)
-    called.result a.rank.now called.new.1.1.1.1.1.0 called.ensures
+    ranking_told_lem a.loopbytes.now a.n a.m l certificates_judged a.certificate.now (as_ranking sound arm.in-2.is)
+    called.result a.rank.now called.new.rank called.ensures
     in
     let told =
     ranked_judged a.loopbytes.now a.n a.m l a.certificate.now a.rank.now (kind_of a.kind) sound.as_kind sound.ranks
-    called.result called.new.1.1.1.1.1.0 by (room arm.before)
+    called.result called.new.rank by (room arm.before)
     in
-    (c.ranked-verdict.ensures ∙ told.0, told.1)
+    (c.ranked_verdict.ensures ∙ told.0, told.1)
 
 -- ---- kind 4
 
 lasso-requires : tie.Need-lasso-requires
 lasso-requires c κs =
     let arm = c.before in
-    let p = (s arm.before).pre in
+    let p = (s arm.before).requires in
     let l = p.0 in
-    (rows_in _ _ _ l, lasso_long _ _ _ _ l certificates_judged _ (as_lasso p.1 arm.match.keys2) p.1.ms_is, room arm.before)
+    (rows_in _ _ _ l, lasso_long _ _ _ _ l certificates_judged _ (as_lasso p.1 arm.in-4.is) p.1.ms_is, room arm.before)
 
-ranked-verdict-requires-2 : tie.Need-ranked-verdict-requires-2
+ranked-verdict-requires-2 : tie.Need-ranked_verdict-requires-in-4
 ranked-verdict-requires-2 c κs = search rules
 
-same-length-2 : tie.Need-same-length-2
+same-length-2 : tie.Need-shape_of-rank-in-4
 same-length-2 c = search rules
 
-returns-3 : tie.Need-returns-3
+returns-3 : tie.Need-returns-in-4
 returns-3 c =
-    let called = c.before.before.lasso in
+    let called = c.lasso in
     let arm = c.before.before.before.before in
     let a = (s arm.before).args in
-    let l = (s arm.before).pre.0 in
-    let sound = (s arm.before).pre.1 in
+    let l = (s arm.before).requires.0 in
+    let sound = (s arm.before).requires.1 in
     let by =
-    lasso_told_lem a.loopbytes.now a.n a.m l certificates_judged a.certificate.now a.ms (as_lasso sound arm.match.keys2) sound.ms_is
-    called.result a.rank.now called.new.1.1.1.1.1.1.0 called.ensures
+    lasso_told_lem a.loopbytes.now a.n a.m l certificates_judged a.certificate.now a.ms (as_lasso sound arm.in-4.is) sound.ms_is
+    called.result a.rank.now called.new.rank called.ensures
     in
     let told =
     ranked_judged a.loopbytes.now a.n a.m l a.certificate.now a.rank.now (kind_of a.kind) sound.as_kind sound.ranks
-    called.result called.new.1.1.1.1.1.1.0 by (room arm.before)
+    called.result called.new.rank by (room arm.before)
     in
-    (c.ranked-verdict2.ensures ∙ told.0, told.1)
+    (c.ranked_verdict-in-4.ensures ∙ told.0, told.1)
 
 -- ---- no other kind has a rank
 
-refused-requires-2 : tie.Need-refused-requires-2
+refused-requires-2 : tie.Need-refused-requires-in_default
 refused-requires-2 c κs = search rules
 
-returns-4 : tie.Need-returns-4
+returns-4 : tie.Need-returns-in_default
 returns-4 c =
     let arm = c.before in
-    absurd (no_others _ arm.match.rest.0.1 arm.match.rest.1 (s arm.before).pre.1.ranks)
+    absurd (no_others _ arm.in_default.in_default-own.rest.0.1 arm.in_default.in_default-own.rest.1 (s arm.before).requires.1.ranks)
 
-pub judge-ranked-spec : {M : Type 1} → statement M
-judge-ranked-spec =
+pub judge_ranked_spec : {M : Type 1} → statement M
+judge_ranked_spec =
     tie.close
     (tie.spec
     refused-requires

@@ -28,16 +28,16 @@ module _ (c : tie.Start) where
   small : nat_abs (factor *ℤ c.args.s0) ≤ 65535 * 2147483648
   small = abs_product factor c.args.s0 factor-small c.requires.2
 
-cast-result : tie.Need-overflow-cast-result
+cast-result : tie.Need-overflow_cast-result
 cast-result c = search rules
 
-cast-result-2 : tie.Need-overflow-cast-result-2
+cast-result-2 : tie.Need-overflow_cast-result-2
 cast-result-2 c = search rules
 
-sub-result : tie.Need-overflow-sub-result
+sub-result : tie.Need-overflow_sub-result
 sub-result c = rw (k-is c, h-is c) (fits_abs (omega (arith, factor-small c)))
 
-mul-result : tie.Need-overflow-mul-result
+mul-result : tie.Need-overflow_mul-result
 mul-result c = rw (k-is c, h-is c, back {z = factor c} (omega (arith, factor-small c)), to_z-of_z c.ranges.s0) (fits_abs (omega (arith, small c)))
 
 returns : tie.Need-returns
@@ -45,5 +45,5 @@ returns c =
     rw (k-is c, h-is c, back {z = factor c} (omega (arith, factor-small c)), to_z-of_z c.ranges.s0)
     (back {z = factor c *ℤ c.args.s0} (omega (arith, small c)))
 
-pub limit-spec : {M : Type 1} → statement M
-limit-spec = tie.close (tie.spec cast-result cast-result-2 sub-result mul-result returns)
+pub limit_spec : {M : Type 1} → statement M
+limit_spec = tie.close (tie.spec cast-result cast-result-2 sub-result mul-result returns)

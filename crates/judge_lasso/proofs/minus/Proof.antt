@@ -18,14 +18,14 @@ module _ (c : tie.Start) where
   small : nat_abs (neg_ℤ (pos c.args.k)) ≤ 65535
   small = omega (arith, abs_neg (pos c.args.k), c.requires)
 
-cast-result : tie.Need-overflow-cast-result
+cast-result : tie.Need-overflow_cast-result
 cast-result c = search rules
 
-sub-result : tie.Need-overflow-sub-result
+sub-result : tie.Need-overflow_sub-result
 sub-result c = rw (k-is c, +ℤ_idl (neg_ℤ (pos c.args.k))) (fits_abs (omega (arith, small c)))
 
 returns : tie.Need-returns
 returns c = rw (k-is c, +ℤ_idl (neg_ℤ (pos c.args.k)), back {z = neg_ℤ (pos c.args.k)} (omega (arith, small c))) (refl, small c)
 
-pub minus-spec : {M : Type 1} → statement M
-minus-spec = tie.close (tie.spec cast-result sub-result returns)
+pub minus_spec : {M : Type 1} → statement M
+minus_spec = tie.close (tie.spec cast-result sub-result returns)

@@ -6,31 +6,31 @@ use borrow.Author.Rules.{rules}
 use Rattle.judge_lasso.proofs.starts.Statement.{statement}
 use Rattle.judge_lasso.proofs.starts.Tie as tie
 
-mul-s : tie.Need-overflow-mul-s
+mul-s : tie.Need-overflow_mul-s
 mul-s c = search rules
 
-add-s : tie.Need-overflow-add-s
+add-s : tie.Need-overflow_add-s
 add-s c = search rules
 
-mul-s-2 : tie.Need-overflow-mul-s-2
+mul-s-2 : tie.Need-overflow_mul-s-2
 mul-s-2 c = search rules
 
-add-s-2 : tie.Need-overflow-add-s-2
+add-s-2 : tie.Need-overflow_add-s-2
 add-s-2 c = search rules
 
-mul-k : tie.Need-overflow-mul-k
+mul-k : tie.Need-overflow_mul-k
 mul-k c = search rules
 
-add-k : tie.Need-overflow-add-k
+add-k : tie.Need-overflow_add-k
 add-k c = search rules
 
-add-k-2 : tie.Need-overflow-add-k-2
+add-k-2 : tie.Need-overflow_add-k-2
 add-k-2 c = search rules
 
-add-carried : tie.Need-overflow-add-carried
+add-carried : tie.Need-overflow_add-k-3
 add-carried c = search rules
 
-u16-at-requires : tie.Need-u16-at-requires
+u16-at-requires : tie.Need-u16_at-requires
 u16-at-requires c κs = search rules
 
 carried-requires : tie.Need-carried-requires
@@ -45,18 +45,18 @@ carried-requires c κs =
       omega (arith, s_small a.certificate.now a.n a.m a.ms h),
       h.n_few,
       omega arith,
-      c.u16-at.ensures.1,
+      c.u16_at.ensures.1,
       omega arith,
     )
 
 returns : tie.Need-returns
 returns c =
-    let read = c.before.u16-at in
-    let a = c.before.before.before.args in
+    let read = c.u16_at in
+    let a = c.args in
     start_as a.certificate.now a.n a.m a.ms read.result c.carried.result read.ensures.0 c.carried.ensures
 
-pub starts-spec : {M : Type 1} → statement M
-starts-spec =
+pub starts_spec : {M : Type 1} → statement M
+starts_spec =
     tie.close
     (tie.spec
     mul-s

@@ -49,7 +49,7 @@ loop-again c =
     let s = l.before.before.before in
     let a = s.args in (
       omega (arith, test.loop-i-test.true),
-      omega (arith, l.loop-i.invariant.1, put.put_row-at.auto.1.1.1.0),
+      omega (arith, l.loop-i.invariant.1, put.put_row-at.auto.room),
       put.put_row-at.ensures.0 ∙ rw (l.loop-i.invariant.2, add-one l.loop-i.i) (omega (arith, rows_more a.m a.bytes.now l.loop-i.i)),
       rows_next a.m a.bytes.now a.room.now (omega (arith, s.requires.1)) l.loop-i.i _
           (rw (← l.loop-i.invariant.2, ← l.loop-i.invariant.3) put.put_row-at.ensures.1),

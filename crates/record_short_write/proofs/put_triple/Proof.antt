@@ -56,7 +56,7 @@ put-u16-requires-2 c κs =
     let put = c.before.before.before in
     let Z = put.before.before in
     let row = Z.before.before in
-    (omega (arith, row_below row, row.requires.1.1, put.put_u16.auto.0), search rules)
+    (omega (arith, row_below row, row.requires.1.1, put.put_u16.auto.room), search rules)
 
 same_length : tie.Need-shape_of-room
 same_length c = search rules

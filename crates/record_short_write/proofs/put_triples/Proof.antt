@@ -43,7 +43,7 @@ loop-again c =
     let put = c.before.before in
     let test = put.before.before in
     let l = test.before in
-    (omega (arith, test.loop-k-test.true), omega (arith, l.loop-k.invariant.1, put.put_triple.auto.1.1.1.0), rw (add-one l.loop-k.k) (put.put_triple.ensures ∙ rw l.loop-k.invariant.2))
+    (omega (arith, test.loop-k-test.true), omega (arith, l.loop-k.invariant.1, put.put_triple.auto.room), rw (add-one l.loop-k.k) (put.put_triple.ensures ∙ rw l.loop-k.invariant.2))
 
 same_length : tie.Need-shape_of-room invariant-loop-k decreases-loop-k
 same_length c = search rules

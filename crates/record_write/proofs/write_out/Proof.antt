@@ -51,8 +51,8 @@ returns c =
     let stated = body_long a.kind c0 a.values.now s.requires.fitting s.requires.known ∙ sym s.requires.long_is in
     let tail = tail_sets kind-put.new.room 6 bytes (omega (arith, stated, s.requires.room_for, length-put.auto, kind-put.auto)) body.ensures in
     let second =
-    sets_both length-put.new.0 4 6 (digits 2 a.kind) bytes
-    (kind-put.ensures ∙ put_is length-put.new.0 (digits 2 a.kind) 4 2 (length_digits 2 a.kind) (omega (arith, stated, s.requires.room_for, length-put.auto)))
+    sets_both length-put.new.room 4 6 (digits 2 a.kind) bytes
+    (kind-put.ensures ∙ put_is length-put.new.room (digits 2 a.kind) 4 2 (length_digits 2 a.kind) (omega (arith, stated, s.requires.room_for, length-put.auto)))
     tail (ap (λ k. 4 + k) (sym (length_digits 2 a.kind))) in
     sets_both a.room.now 0 4 (digits 4 a.long) (digits 2 a.kind ++ bytes)
     (length-put.ensures ∙ put_is a.room.now (digits 4 a.long) 0 4 (length_digits 4 a.long) (omega (arith, s.requires.room_for)))
