@@ -19,99 +19,99 @@ abbrev batch : tie.Start → Batch
 batch s = batch_of s.args.loopbytes.now s.args.bytes.now s.args.places s.args.numbers
 
 -- where the loop was checked, and found sound
-abbrev start : tie.After-check-loop → tie.Start
+abbrev start : tie.After-check_loop-fault → tie.Start
 start c = c.before.before.before
 
-sound-loop : (c : tie.Else1) → loop_told (start c.before.before).args.loopbytes.now ≡ done
+sound-loop : (c : tie.Else-fault-ne0) → loop_told (start c.before.before).args.loopbytes.now ≡ done
 sound-loop c =
     let bytes = (start c.before.before).args.loopbytes.now in
-    let v = c.before.before.check-loop in
-    fault_done v.result (loop_told bytes) v.ensures (loop_named bytes) c.if1.false
+    let v = c.check_loop-fault in
+    fault_done v.result (loop_told bytes) v.ensures (loop_named bytes) c.if-fault-ne0.false
 
 -- where the records were counted
-abbrev loop-at : tie.After-count → tie.Else1
+abbrev loop-at : tie.After-count-count → tie.Else-fault-ne0
 loop-at c = c.before
 
-abbrev start-at : tie.After-count → tie.Start
+abbrev start-at : tie.After-count-count → tie.Start
 start-at c = start (loop-at c).before.before
 
-module _ (c : tie.After-count) where
+module _ (c : tie.After-count-count) where
   abbrev b : Batch
   b = batch (start-at c)
 
-  count_is : c.count.result ≡ count b
+  count_is : c.count-count.result ≡ count b
   unfolding count
-  count_is = c.count.ensures
+  count_is = c.count-count.ensures
 
 -- how many numbers are needed
-module _ (c : tie.After-u16-at) where
-  abbrev counted : tie.After-count
+module _ (c : tie.After-u16_at) where
+  abbrev counted : tie.After-count-count
   counted = c.before.before.before
 
-  needed_is : c.u16-at.result * counted.count.result ≡ numbers_needed (b counted)
+  needed_is : c.u16_at.result * counted.count-count.result ≡ numbers_needed (b counted)
   unfolding numbers_needed variables
-  needed_is = ap (λ k. c.u16-at.result * k) (count_is counted) ∙ ap (λ k. k * count (b counted)) c.u16-at.ensures.0
+  needed_is = ap (λ k. c.u16_at.result * k) (count_is counted) ∙ ap (λ k. k * count (b counted)) c.u16_at.ensures.0
 
-  small : c.u16-at.result * counted.count.result ≤ 65_536 * 32
+  small : c.u16_at.result * counted.count-count.result ≤ 65_536 * 32
   small =
-      let short : c.u16-at.result ≤ 65_536 = omega (arith, c.u16-at.ensures.1) in
-      let few : counted.count.result ≤ 32 = omega arith in
+      let short : c.u16_at.result ≤ 65_536 = omega (arith, c.u16_at.ensures.1) in
+      let few : counted.count-count.result ≤ 32 = omega arith in
       mul-le-mul short few
 
-check-loop-requires : tie.Need-check-loop-requires
+check-loop-requires : tie.Need-check_loop-fault-requires
 check-loop-requires c κs = search rules
 
 refused-requires : tie.Need-refused-requires
 refused-requires c κs = search rules
 
-returns : tie.Need-returns
+returns : tie.Need-returns-then-fault-ne0
 returns c =
     let called = c.before.before.before in
-    let v = called.check-loop in
+    let v = called.check_loop-fault in
     let bytes = (start called).args.loopbytes.now in
     c.refused.ensures
-    ∙ at_loop (batch (start called)) v.result.number v.result.place (fault_refused v.result (loop_told bytes) v.ensures c.before.if1.true)
+    ∙ at_loop (batch (start called)) v.result.number v.result.place (fault_refused v.result (loop_told bytes) v.ensures c.if-fault-ne0.true)
 
-count-requires : tie.Need-count-requires
+count-requires : tie.Need-count-count-requires
 count-requires c κs = search rules
 
-refused-requires-2 : tie.Need-refused-requires-2
+refused-requires-2 : tie.Need-refused-requires-then-count-gt32
 refused-requires-2 c κs = search rules
 
-returns-2 : tie.Need-returns-2
+returns-2 : tie.Need-returns-then-count-gt32
 returns-2 c =
     let counted = c.before.before in
-    c.refused2.ensures ∙ too_many (b counted) (sound-loop (loop-at counted)) counted.count.result (count_is counted) (omega arith)
+    c.refused-then-count-gt32.ensures ∙ too_many (b counted) (sound-loop (loop-at counted)) counted.count-count.result (count_is counted) (omega arith)
 
-refused-requires-3 : tie.Need-refused-requires-3
+refused-requires-3 : tie.Need-refused-requires-then-places-count
 refused-requires-3 c κs = search rules
 
-returns-3 : tie.Need-returns-3
+returns-3 : tie.Need-returns-then-places-count
 returns-3 c =
     let counted = c.before.before.before in
-    c.refused3.ensures ∙ few_places (b counted) (sound-loop (loop-at counted)) counted.count.result (count_is counted) (omega arith) (omega arith)
+    c.refused-then-places-count.ensures ∙ few_places (b counted) (sound-loop (loop-at counted)) counted.count-count.result (count_is counted) (omega arith) (omega arith)
 
-u16-at-requires : tie.Need-u16-at-requires
+u16-at-requires : tie.Need-u16_at-requires
 u16-at-requires c κs = omega (arith, loop_long _ (sound-loop (loop-at c.before.before)))
 
-mul-needed : tie.Need-overflow-mul-needed
+mul-needed : tie.Need-overflow_mul-needed
 mul-needed c = record { fits = omega (arith, small c) }
 
-refused-requires-4 : tie.Need-refused-requires-4
+refused-requires-4 : tie.Need-refused-requires-then-numbers-needed
 refused-requires-4 c κs = search rules
 
-returns-4 : tie.Need-returns-4
+returns-4 : tie.Need-returns-then-numbers-needed
 returns-4 c =
     let read = c.before.before in
     let at = counted read in
-    c.refused4.ensures
-    ∙ few_numbers (b at) (sound-loop (loop-at at)) at.count.result (count_is at) (omega arith) (read.u16-at.result * at.count.result) (omega arith) (needed_is read) (omega arith)
+    c.refused-then-numbers-needed.ensures
+    ∙ few_numbers (b at) (sound-loop (loop-at at)) at.count-count.result (count_is at) (omega arith) (read.u16_at.result * at.count-count.result) (omega arith) (needed_is read) (omega arith)
 
-returns-5 : tie.Need-returns-5
+returns-5 : tie.Need-returns
 returns-5 c =
     let read = c.before in
     let at = counted read in
-    all_room (b at) (sound-loop (loop-at at)) at.count.result (count_is at) (omega arith) (read.u16-at.result * at.count.result) (omega arith) (needed_is read) (omega arith)
+    all_room (b at) (sound-loop (loop-at at)) at.count-count.result (count_is at) (omega arith) (read.u16_at.result * at.count-count.result) (omega arith) (needed_is read) (omega arith)
 
 pub enter_spec : {M : Type 1} → statement M
 enter_spec =

@@ -12,99 +12,99 @@ use Rattle.judge_batch.proofs.flat_certificate.Tie as tie
 
 -- ---- places: past the frame, and where the kind has been read
 
-abbrev start : tie.After-frame → tie.Start
+abbrev start : tie.After-frame-head → tie.Start
 start c = c.before.before.before
 
-right_frame : (c : tie.Else1) → Framed (start c.before.before).args.certificate.now
-right_frame c = let head = c.before.before in well_framed (start head).args.certificate.now head.frame.result head.frame.ensures c.if1.false
+right_frame : (c : tie.Else-head-ne0) → Framed (start c.before.before).args.certificate.now
+right_frame c = let head = c.before.before in well_framed (start head).args.certificate.now head.frame-head.result head.frame-head.ensures c.if-head-ne0.false
 
-module _ (c : tie.After-u16-at) where
+module _ (c : tie.After-u16_at-kind) where
   abbrev s : tie.Start
   s = start c.before.before.before
 
-  past : Past s.args.loopbytes.now s.args.certificate.now s.args.n s.args.m c.u16-at.result
-  past = record { loop_sound = s.pre; frame_right = right_frame c.before; number_is = c.u16-at.ensures.0 }
+  past : Past s.args.loopbytes.now s.args.certificate.now s.args.n s.args.m c.u16_at-kind.result
+  past = record { loop_sound = s.requires; frame_right = right_frame c.before; number_is = c.u16_at-kind.ensures.0 }
 
-frame-requires : tie.Need-frame-requires
+frame-requires : tie.Need-frame-head-requires
 frame-requires c κs = search rules
 
 refused-requires : tie.Need-refused-requires
 refused-requires c κs = search rules
 
-flat-verdict-requires : tie.Need-flat-verdict-requires
+flat-verdict-requires : tie.Need-flat_verdict-requires
 flat-verdict-requires c κs = search rules
 
-returns : tie.Need-returns
+returns : tie.Need-returns-then-head-ne0
 returns c =
     let called = c.before in
     let head = called.before.before.before in
-    in_numbers c.flat_verdict.ensures (Ways.by_frame _ _ _ (start head).requires head.frame.result head.frame.ensures called.before.if1.true _ called.refused.ensures)
+    in_numbers c.flat_verdict.ensures (Ways.by_frame _ _ _ (start head).requires head.frame-head.result head.frame-head.ensures called.if-head-ne0.true _ called.refused.ensures)
 
-u16-at-requires : tie.Need-u16-at-requires
+u16-at-requires : tie.Need-u16_at-kind-requires
 u16-at-requires c κs = (right_frame c).head
 
-by-ranking-requires : tie.Need-by-ranking-requires
-by-ranking-requires c κs = let read = c.before.before in ((s read).requires, Ways.open_as (past read) 2 c.before.match.keys1)
+by-ranking-requires : tie.Need-by_ranking-requires
+by-ranking-requires c κs = let read = c.before.before in ((s read).requires, Ways.open_as (past read) 2 c.in-2.is)
 
-flat-verdict-requires-2 : tie.Need-flat-verdict-requires-2
+flat-verdict-requires-2 : tie.Need-flat_verdict-requires-in-2
 flat-verdict-requires-2 c κs = search rules
 
-by-lasso-requires : tie.Need-by-lasso-requires
-by-lasso-requires c κs = let read = c.before.before in ((s read).requires, Ways.open_as (past read) 4 c.before.match.keys2)
+by-lasso-requires : tie.Need-by_lasso-requires
+by-lasso-requires c κs = let read = c.before.before in ((s read).requires, Ways.open_as (past read) 4 c.in-4.is)
 
-flat-verdict-requires-3 : tie.Need-flat-verdict-requires-3
+flat-verdict-requires-3 : tie.Need-flat_verdict-requires-in-4
 flat-verdict-requires-3 c κs = search rules
 
-settling-sound-requires : tie.Need-settling-sound-requires
-settling-sound-requires c κs = (s c.before.before).pre
+settling-sound-requires : tie.Need-settling_sound-requires
+settling-sound-requires c κs = (s c.before.before).requires
 
-flat-verdict-requires-4 : tie.Need-flat-verdict-requires-4
+flat-verdict-requires-4 : tie.Need-flat_verdict-requires-in-8
 flat-verdict-requires-4 c κs = search rules
 
-judge-others-requires : tie.Need-judge-others-requires
-judge-others-requires c κs = let rest = c.before.match.rest in (past c.before.before, (rest.0.0.1, rest.0.1, rest.1))
+judge-others-requires : tie.Need-judge_others-requires
+judge-others-requires c κs = let rest = c.before.in_default.in_default-own.rest in (past c.before.before, (rest.0.0.1, rest.0.1, rest.1))
 
-flat-verdict-requires-5 : tie.Need-flat-verdict-requires-5
+flat-verdict-requires-5 : tie.Need-flat_verdict-requires-in_default
 flat-verdict-requires-5 c κs = search rules
 
-same_length : tie.Need-same-length
+same_length : tie.Need-shape_of-rank-in-2
 same_length c = search rules
 
-returns-2 : tie.Need-returns-2
+returns-2 : tie.Need-returns-in-2
 returns-2 c =
     let called = c.before.before in
     let arm = called.before.before in
     let read = arm.before in
-    in_numbers c.flat-verdict2.ensures (Ways.by_base (past read) (s read).args.rank.now 2 arm.match.keys1 (omega arith) _ _ called.by-ranking.ensures)
+    in_numbers c.flat_verdict-in-2.ensures (Ways.by_base (past read) (s read).args.rank.now 2 arm.in-2.is (omega arith) _ _ called.by_ranking.ensures)
 
-same-length-2 : tie.Need-same-length-2
+same-length-2 : tie.Need-shape_of-rank-in-4
 same-length-2 c = search rules
 
-returns-3 : tie.Need-returns-3
+returns-3 : tie.Need-returns-in-4
 returns-3 c =
     let called = c.before.before in
     let arm = called.before.before in
     let read = arm.before in
-    in_numbers c.flat-verdict3.ensures (Ways.by_base (past read) (s read).args.rank.now 4 arm.match.keys2 (omega arith) _ _ called.by-lasso.ensures)
+    in_numbers c.flat_verdict-in-4.ensures (Ways.by_base (past read) (s read).args.rank.now 4 arm.in-4.is (omega arith) _ _ called.by_lasso.ensures)
 
-same-length-3 : tie.Need-same-length-3
+same-length-3 : tie.Need-shape_of-rank-in-8
 same-length-3 c = search rules
 
-returns-4 : tie.Need-returns-4
+returns-4 : tie.Need-returns-in-8
 returns-4 c =
     let called = c.before.before in
     let arm = called.before.before in
     let read = arm.before in
-    in_numbers c.flat-verdict4.ensures (Ways.by_eight (past read) (s read).args.rank.now arm.match.keys3 _ _ called.settling_sound.ensures)
+    in_numbers c.flat_verdict-in-8.ensures (Ways.by_eight (past read) (s read).args.rank.now arm.in-8.is _ _ called.settling_sound.ensures)
 
-same-length-4 : tie.Need-same-length-4
+same-length-4 : tie.Need-shape_of-rank-in_default
 same-length-4 c = search rules
 
-returns-5 : tie.Need-returns-5
-returns-5 c = in_numbers c.flat-verdict5.ensures c.before.before.judge-others.ensures
+returns-5 : tie.Need-returns-in_default
+returns-5 c = in_numbers c.flat_verdict-in_default.ensures c.judge_others.ensures
 
-pub flat-certificate-spec : {M : Type 1} → statement M
-flat-certificate-spec =
+pub flat_certificate_spec : {M : Type 1} → statement M
+flat_certificate_spec =
     tie.close
     (tie.spec
     frame-requires

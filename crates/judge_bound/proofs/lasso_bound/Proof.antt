@@ -11,36 +11,36 @@ use Rattle.judge_bound.proofs.RankNeeds.{blank, Told, needed}
 use Rattle.judge_bound.proofs.lasso_bound.Statement.{statement}
 use Rattle.judge_bound.proofs.lasso_bound.Tie as tie
 
-module _ (c : tie.After-lasso) where
+module _ (c : tie.After-lasso-shown) where
   abbrev s : tie.Start
   s = c.before.before.before.before
 
-  told : Told s.args.loopbytes.now s.args.certificate.now c.lasso.result c.lasso.new.1.1.1.1.1.1.0
+  told : Told s.args.loopbytes.now s.args.certificate.now c.lasso-shown.result c.lasso-shown.new.rank
   told =
       let a = s.args in
-      let p = s.pre in
+      let p = s.requires in
       lasso_told_lem a.loopbytes.now a.n a.m p.0 certificates_bounded a.certificate.now a.ms (as_lasso p.1 refl) p.1.ms_is
-      c.lasso.result blank c.lasso.new.1.1.1.1.1.1.0 c.lasso.ensures
+      c.lasso-shown.result blank c.lasso-shown.new.rank c.lasso-shown.ensures
 
-slice-aggregate-lasso : tie.Need-slice-aggregate-lasso
+slice-aggregate-lasso : tie.Need-slice_bounds-lasso-end
 slice-aggregate-lasso c = search rules
 
-lasso-requires : tie.Need-lasso-requires
+lasso-requires : tie.Need-lasso-shown-requires
 lasso-requires c κs =
-    let p = c.before.before.before.requires in
+    let p = c.requires in
     let l = p.0 in
     (rows_in _ _ _ l, lasso_long _ _ _ _ l certificates_bounded _ (as_lasso p.1 refl) p.1.ms_is, n_few _ _ _ l)
 
-slice-aggregate-ranked-bound : tie.Need-slice-aggregate-ranked-bound
+slice-aggregate-ranked-bound : tie.Need-slice_bounds-ranked_bound-end
 slice-aggregate-ranked-bound c = search rules
 
-ranked-bound-requires : tie.Need-ranked-bound-requires
+ranked-bound-requires : tie.Need-ranked_bound-requires
 ranked-bound-requires c κs =
     let asked = c.before.before in
     let a = (s asked).args in
     let p = (s asked).requires in
     needed a.loopbytes.now a.n a.m p.0 a.certificate.now a.state.now p.2 4 a.ms p.1
-    asked.lasso.result asked.lasso.new.1.1.1.1.1.1.0 (told asked) asked.lasso.auto.1.1.1.1.1.1.0
+    asked.lasso-shown.result asked.lasso-shown.new.rank (told asked) asked.lasso-shown.auto.rank
 
 returns : tie.Need-returns
 returns c =
@@ -48,11 +48,11 @@ returns c =
     let a = (s asked).args in
     let p = (s asked).requires in
     ranked_answers a.loopbytes.now a.n a.m p.0 a.certificate.now a.state.now p.2 4 a.ms p.1
-    asked.lasso.result blank asked.lasso.new.1.1.1.1.1.1.0 (told asked) asked.lasso.auto.1.1.1.1.1.1.0
-    c.ranked-bound.result c.ranked-bound.ensures
+    asked.lasso-shown.result blank asked.lasso-shown.new.rank (told asked) asked.lasso-shown.auto.rank
+    c.ranked_bound.result c.ranked_bound.ensures
 
-pub lasso-bound-spec : {M : Type 1} → statement M
-lasso-bound-spec =
+pub lasso_bound_spec : {M : Type 1} → statement M
+lasso_bound_spec =
     tie.close
     (tie.spec
     slice-aggregate-lasso

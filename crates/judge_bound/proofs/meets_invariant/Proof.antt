@@ -17,62 +17,62 @@ use borrow.Author.Rules.{rules, sfits_of}
 use Rattle.judge_bound.proofs.meets_invariant.Statement.{statement}
 use Rattle.judge_bound.proofs.meets_invariant.Tie as tie
 
-mul-s : tie.Need-overflow-mul-s
+mul-s : tie.Need-overflow_mul-s
 mul-s c = search rules
 
-add-s : tie.Need-overflow-add-s
+add-s : tie.Need-overflow_add-s
 add-s c = search rules
 
-mul-s-2 : tie.Need-overflow-mul-s-2
+mul-s-2 : tie.Need-overflow_mul-s-2
 mul-s-2 c = search rules
 
-add-s-2 : tie.Need-overflow-add-s-2
+add-s-2 : tie.Need-overflow_add-s-2
 add-s-2 c = search rules
 
-entries-at-requires : tie.Need-entries-at-requires
+entries-at-requires : tie.Need-entries_at-reached-requires
 entries-at-requires c κs = search rules
 
-mul-i32-at : tie.Need-overflow-mul-i32-at
+mul-i32-at : tie.Need-overflow_mul-n
 mul-i32-at c = search rules
 
-add-i32-at : tie.Need-overflow-add-i32-at
+add-i32-at : tie.Need-overflow_add-s-3
 add-i32-at c = search rules
 
-i32-at-requires : tie.Need-i32-at-requires
+i32-at-requires : tie.Need-i32_at-right-requires
 i32-at-requires c κs = search rules
 
 -- where the call started
-abbrev start : tie.After-entries-at → tie.Start
+abbrev start : tie.After-entries_at-reached → tie.Start
 start c = c.before.before
 
-total-fits : (c : tie.After-struct-told) → SFits w64 (c.before.before.before.entries_at.result.sum +ℤ c.before.before.i32-at.result)
+total-fits : (c : tie.After-struct_told-1) → SFits w64 (c.entries_at-reached.result.sum +ℤ c.i32_at-right.result)
 total-fits c =
     let s = start c.before.before.before in
-    let reached = c.before.before.before.entries_at in
-    let right = c.before.before.i32-at in
-    fits_abs {z = reached.result.sum +ℤ right.result} (omega (arith, abs_add reached.result.sum right.result, reached.ensures.small, right.ensures.1, s.pre.0.n_few, s.pre.1))
+    let reached = c.entries_at-reached in
+    let right = c.i32_at-right in
+    fits_abs {z = reached.result.sum +ℤ right.result} (omega (arith, abs_add reached.result.sum right.result, reached.ensures.small, right.ensures.1, s.requires.0.n_few, s.requires.1))
 
-add-result : tie.Need-overflow-add-result
+add-result : tie.Need-overflow_add-result
 add-result c =
-    let reached = c.before.before.before.entries_at in
-    let right = c.before.before.i32-at in
-    rw (to_z-of_z (sfits_of reached.type-inv.1.1.0.1), to_z-of_z (sfits_of right.type-inv)) (total-fits c)
+    let reached = c.entries_at-reached in
+    let right = c.i32_at-right in
+    rw (to_z-of_z (sfits_of reached.type_inv.1.1.0.1), to_z-of_z (sfits_of right.type_inv)) (total-fits c)
 
 returns : tie.Need-returns
 unfolding invariant_held lasso_held right_at
 returns c =
     let s = start c.before.before.before in
     let a = s.args in
-    let reached = c.before.before.before.entries_at in
-    let right = c.before.before.i32-at in
+    let reached = c.entries_at-reached in
+    let right = c.i32_at-right in
     let sum_is : reached.result.sum ≡ dot (entries_from a.certificate.now (s_place a.n a.ms) a.n) a.state.now =
-    reached.ensures.is ∙ state_dot a.certificate.now (s_place a.n a.ms) a.state.now ∙ rw s.pre.1
+    reached.ensures.is ∙ state_dot a.certificate.now (s_place a.n a.ms) a.state.now ∙ rw s.requires.1
     in
-    rw (to_z-of_z {w = w64} {z = reached.result.sum} (sfits_of reached.type-inv.1.1.0.1), to_z-of_z {w = w64} {z = right.result} (sfits_of right.type-inv), to_z-of_z (total-fits c))
+    rw (to_z-of_z {w = w64} {z = reached.result.sum} (sfits_of reached.type_inv.1.1.0.1), to_z-of_z {w = w64} {z = right.result} (sfits_of right.type_inv), to_z-of_z (total-fits c))
     (ap (le_z (pos 0)) (ap (λ z. z +ℤ right.result) sum_is ∙ ap (λ z. dot (entries_from a.certificate.now (s_place a.n a.ms) a.n) a.state.now +ℤ z) right.ensures.0))
 
-pub meets-invariant-spec : {M : Type 1} → statement M
-meets-invariant-spec =
+pub meets_invariant_spec : {M : Type 1} → statement M
+meets_invariant_spec =
     tie.close
     (tie.spec
     mul-s

@@ -11,36 +11,36 @@ use Rattle.judge_bound.proofs.RankNeeds.{blank, Told, needed}
 use Rattle.judge_bound.proofs.ranking_bound.Statement.{statement}
 use Rattle.judge_bound.proofs.ranking_bound.Tie as tie
 
-module _ (c : tie.After-ranking) where
+module _ (c : tie.After-ranking-shown) where
   abbrev s : tie.Start
   s = c.before.before.before.before
 
-  told : Told s.args.loopbytes.now s.args.certificate.now c.ranking.result c.ranking.new.1.1.1.1.1.0
+  told : Told s.args.loopbytes.now s.args.certificate.now c.ranking-shown.result c.ranking-shown.new.rank
   told =
       let a = s.args in
-      let p = s.pre in
+      let p = s.requires in
       ranking_told_lem a.loopbytes.now a.n a.m p.0 certificates_bounded a.certificate.now (as_ranking p.1 refl)
-      c.ranking.result blank c.ranking.new.1.1.1.1.1.0 c.ranking.ensures
+      c.ranking-shown.result blank c.ranking-shown.new.rank c.ranking-shown.ensures
 
-slice-aggregate-ranking : tie.Need-slice-aggregate-ranking
+slice-aggregate-ranking : tie.Need-slice_bounds-ranking-end
 slice-aggregate-ranking c = search rules
 
-ranking-requires : tie.Need-ranking-requires
+ranking-requires : tie.Need-ranking-shown-requires
 ranking-requires c κs =
-    let p = c.before.before.before.requires in
+    let p = c.requires in
     let l = p.0 in
     (rows_in _ _ _ l, n_few _ _ _ l, m_few _ _ _ l, ranking_long _ _ _ l certificates_bounded _ (as_ranking p.1 refl), n_few _ _ _ l)
 
-slice-aggregate-ranked-bound : tie.Need-slice-aggregate-ranked-bound
+slice-aggregate-ranked-bound : tie.Need-slice_bounds-ranked_bound-end
 slice-aggregate-ranked-bound c = search rules
 
-ranked-bound-requires : tie.Need-ranked-bound-requires
+ranked-bound-requires : tie.Need-ranked_bound-requires
 ranked-bound-requires c κs =
     let asked = c.before.before in
     let a = (s asked).args in
     let p = (s asked).requires in
     needed a.loopbytes.now a.n a.m p.0 a.certificate.now a.state.now p.2 2 0 p.1
-    asked.ranking.result asked.ranking.new.1.1.1.1.1.0 (told asked) asked.ranking.auto.1.1.1.1.1.0
+    asked.ranking-shown.result asked.ranking-shown.new.rank (told asked) asked.ranking-shown.auto.rank
 
 returns : tie.Need-returns
 returns c =
@@ -48,11 +48,11 @@ returns c =
     let a = (s asked).args in
     let p = (s asked).requires in
     ranked_answers a.loopbytes.now a.n a.m p.0 a.certificate.now a.state.now p.2 2 0 p.1
-    asked.ranking.result blank asked.ranking.new.1.1.1.1.1.0 (told asked) asked.ranking.auto.1.1.1.1.1.0
-    c.ranked-bound.result c.ranked-bound.ensures
+    asked.ranking-shown.result blank asked.ranking-shown.new.rank (told asked) asked.ranking-shown.auto.rank
+    c.ranked_bound.result c.ranked_bound.ensures
 
-pub ranking-bound-spec : {M : Type 1} → statement M
-ranking-bound-spec =
+pub ranking_bound_spec : {M : Type 1} → statement M
+ranking_bound_spec =
     tie.close
     (tie.spec
     slice-aggregate-ranking

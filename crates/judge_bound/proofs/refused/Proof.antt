@@ -9,5 +9,5 @@ refused-requires c κs = search rules
 returns : tie.Need-returns
 returns c = rw c.refused.ensures
 
-pub refused-spec : {M : Type 1} → statement M
-refused-spec = tie.close (tie.spec refused-requires returns)
+pub refused_spec : {M : Type 1} → statement M
+refused_spec = tie.close (tie.spec refused-requires returns)

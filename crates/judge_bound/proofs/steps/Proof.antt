@@ -13,38 +13,38 @@ use Rattle.judge_bound.proofs.StepLaws.{above_zero, some_fall, weakly}
 use Rattle.judge_bound.proofs.steps.Statement.{statement}
 use Rattle.judge_bound.proofs.steps.Tie as tie
 
-left : (c : tie.Else1) → lt_z c.before.args.value c.before.args.start ≡ false
-left c = rw (to_z-of_z c.before.ranges.value, to_z-of_z c.before.ranges.start) at c.if1.false
+left : (c : tie.Else-value-start) → lt_z c.args.value c.args.start ≡ false
+left c = rw (to_z-of_z c.ranges.value, to_z-of_z c.ranges.start) at c.if-value-start.false
 
-difference : (c : tie.Else1) → SFits w64 (c.before.args.value -ℤ c.before.args.start)
-difference c = fits_abs {z = c.before.args.value -ℤ c.before.args.start} (omega (arith, c.before.requires.0))
+difference : (c : tie.Else-value-start) → SFits w64 (c.args.value -ℤ c.args.start)
+difference c = fits_abs {z = c.args.value -ℤ c.args.start} (omega (arith, c.requires.0))
 
-returns : tie.Need-returns
-returns c = let test : lt_z c.before.args.value c.before.args.start ≡ true = rw (to_z-of_z c.before.ranges.value, to_z-of_z c.before.ranges.start) at c.if1.true in rw test
+returns : tie.Need-returns-then-value-start
+returns c = let test : lt_z c.args.value c.args.start ≡ true = rw (to_z-of_z c.ranges.value, to_z-of_z c.ranges.start) at c.if-value-start.true in rw test
 
-sub-result : tie.Need-overflow-sub-result
-sub-result c = rw (to_z-of_z c.before.ranges.value, to_z-of_z c.before.ranges.start) (difference c)
+sub-result : tie.Need-overflow_sub-result
+sub-result c = rw (to_z-of_z c.ranges.value, to_z-of_z c.ranges.start) (difference c)
 
-cast-result : tie.Need-overflow-cast-result
+cast-result : tie.Need-overflow_cast-result
 cast-result c =
-    rw (to_z-of_z c.before.ranges.value, to_z-of_z c.before.ranges.start, to_z-of_z (difference c))
-    (yes_non_neg (above_zero c.before.args.value c.before.args.start (left c)), record { fits = omega (arith, c.before.requires.0) })
+    rw (to_z-of_z c.ranges.value, to_z-of_z c.ranges.start, to_z-of_z (difference c))
+    (yes_non_neg (above_zero c.args.value c.args.start (left c)), record { fits = omega (arith, c.requires.0) })
 
-cast-result-2 : tie.Need-overflow-cast-result-2
-cast-result-2 c = rw (to_z-of_z c.before.ranges.fall) (yes_non_neg (weakly c.before.args.fall c.before.requires.1), record { fits = omega (arith, nat_abs-le c.before.args.fall c.before.ranges.fall.sfits) })
+cast-result-2 : tie.Need-overflow_cast-result-2
+cast-result-2 c = rw (to_z-of_z c.ranges.fall) (yes_non_neg (weakly c.args.fall c.requires.1), record { fits = omega (arith, nat_abs-le c.args.fall c.ranges.fall.sfits) })
 
-div-result : tie.Need-nonzero-div-result
-div-result c = rw (to_z-of_z c.before.ranges.fall) (some_fall c.before.args.fall c.before.requires.1)
+div-result : tie.Need-nonzero_div-result
+div-result c = rw (to_z-of_z c.ranges.fall) (some_fall c.args.fall c.requires.1)
 
-add-result : tie.Need-overflow-add-result
+add-result : tie.Need-overflow_add-result
 add-result c =
-    rw (to_z-of_z c.before.ranges.value, to_z-of_z c.before.ranges.start, to_z-of_z (difference c), to_z-of_z c.before.ranges.fall)
-    (record { fits = omega (arith, c.before.requires.0, div-le_self (nat_abs (c.before.args.value -ℤ c.before.args.start)) (nat_abs c.before.args.fall)) })
+    rw (to_z-of_z c.ranges.value, to_z-of_z c.ranges.start, to_z-of_z (difference c), to_z-of_z c.ranges.fall)
+    (record { fits = omega (arith, c.requires.0, div-le_self (nat_abs (c.args.value -ℤ c.args.start)) (nat_abs c.args.fall)) })
 
-returns-2 : tie.Need-returns-2
-returns-2 c = rw (to_z-of_z c.before.ranges.value, to_z-of_z c.before.ranges.start, to_z-of_z (difference c), to_z-of_z c.before.ranges.fall, left c)
+returns-2 : tie.Need-returns
+returns-2 c = rw (to_z-of_z c.ranges.value, to_z-of_z c.ranges.start, to_z-of_z (difference c), to_z-of_z c.ranges.fall, left c)
 
-pub steps-spec : {M : Type 1} → statement M
-steps-spec =
+pub steps_spec : {M : Type 1} → statement M
+steps_spec =
     tie.close
     (tie.spec returns sub-result cast-result cast-result-2 div-result add-result returns-2)

@@ -5,31 +5,31 @@ use borrow.Author.Rules.{rules}
 use Rattle.judge_by_kind.proofs.judge_paths.Statement.{statement}
 use Rattle.judge_by_kind.proofs.judge_paths.Tie as tie
 
-check-paths-requires : tie.Need-check-paths-requires
+check-paths-requires : tie.Need-check_paths-fault-requires
 check-paths-requires c κs = search rules
 
 refused-requires : tie.Need-refused-requires
 refused-requires c κs = search rules
 
-returns : tie.Need-returns
+returns : tie.Need-returns-then-fault-ne0
 returns c =
     let called = c.before.before.before in
-    let a = called.before.before.before.args in
-    let v = called.check-paths in
-    c.refused.ensures ∙ loop_refused a.loopbytes.now a.certificate.now v.result v.ensures c.before.if1.true
+    let a = called.args in
+    let v = called.check_paths-fault in
+    c.refused.ensures ∙ loop_refused a.loopbytes.now a.certificate.now v.result v.ensures c.if-fault-ne0.true
 
-judge-paths-sound-requires : tie.Need-judge-paths-sound-requires
+judge-paths-sound-requires : tie.Need-judge_paths_sound-requires
 judge-paths-sound-requires c κs =
     let called = c.before.before in
-    let a = called.before.before.before.args in
-    let v = called.check-paths in
-    loop_sound a.loopbytes.now a.certificate.now v.result v.ensures c.if1.false
+    let a = called.args in
+    let v = called.check_paths-fault in
+    loop_sound a.loopbytes.now a.certificate.now v.result v.ensures c.if-fault-ne0.false
 
-returns-2 : tie.Need-returns-2
+returns-2 : tie.Need-returns
 returns-2 c = search rules
 
-pub judge-paths-spec : {M : Type 1} → statement M
-judge-paths-spec =
+pub judge_paths_spec : {M : Type 1} → statement M
+judge_paths_spec =
     tie.close
     (tie.spec
     check-paths-requires

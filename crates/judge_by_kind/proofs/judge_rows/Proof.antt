@@ -10,38 +10,38 @@ use Rattle.judge_by_kind.proofs.AnswerWays.{loop_refused}
 use Rattle.judge_by_kind.proofs.judge_rows.Statement.{statement}
 use Rattle.judge_by_kind.proofs.judge_rows.Tie as tie
 
-abbrev start : tie.After-loop-record → tie.Start
+abbrev start : tie.After-loop_record-said → tie.Start
 start c = c.before.before.before
 
-loop-record-requires : tie.Need-loop-record-requires
+loop-record-requires : tie.Need-loop_record-said-requires
 loop-record-requires c κs = search rules
 
 refused-requires : tie.Need-refused-requires
 refused-requires c κs = search rules
 
-returns : tie.Need-returns
+returns : tie.Need-returns-then-said-ne0
 returns c =
     let called = c.before.before.before in
     let s = start called in
     let a = s.args in
-    let v = called.loop_record in
-    let rows : of_paths a.loopbytes.now ≡ false = not_five a.loopbytes.now (λ e. omega (arith, e, s.pre.1)) in
-    let by = loop_refused a.loopbytes.now a.certificate.now a.rank.now rows _ _ (Entered.loop_refused a.loopbytes.now v.result v.ensures c.before.if1.true) in
+    let v = called.loop_record-said in
+    let rows : of_paths a.loopbytes.now ≡ false = not_five a.loopbytes.now (λ e. omega (arith, e, s.requires.1)) in
+    let by = loop_refused a.loopbytes.now a.certificate.now a.rank.now rows _ _ (Entered.loop_refused a.loopbytes.now v.result v.ensures c.if-said-ne0.true) in
     (c.refused.ensures ∙ by.0, by.1)
 
-judge-certificate-requires : tie.Need-judge-certificate-requires
+judge-certificate-requires : tie.Need-judge_certificate-requires
 judge-certificate-requires c κs =
     let called = c.before.before.before in
-    Entered.loop_sound (start called).args.loopbytes.now called.loop_record.result called.loop_record.ensures c.before.if1.false
+    Entered.loop_sound (start called).args.loopbytes.now called.loop_record-said.result called.loop_record-said.ensures c.if-said-ne0.false
 
-same_length : tie.Need-same-length
+same_length : tie.Need-shape_of-rank
 same_length c = search rules
 
-returns-2 : tie.Need-returns-2
+returns-2 : tie.Need-returns
 returns-2 c = search rules
 
-pub judge-rows-spec : {M : Type 1} → statement M
-judge-rows-spec =
+pub judge_rows_spec : {M : Type 1} → statement M
+judge_rows_spec =
     tie.close
     (tie.spec
     loop-record-requires

@@ -20,7 +20,7 @@ use Rattle.judge_settling.proofs.settling.Tie as tie
 
 -- ---- once the rise is tested: the start of the call, its loop and its settling
 
-module _ (c : tie.After-rises) where
+module _ (c : tie.After-rises-risen) where
   abbrev s : tie.Start
   s = c.before.before.before
 
@@ -30,78 +30,78 @@ module _ (c : tie.After-rises) where
   abbrev held : Settling
   held = let a = s.args in settling_held a.certificate.now a.n a.m
 
-rises-requires : tie.Need-rises-requires
+rises-requires : tie.Need-rises-risen-requires
 rises-requires c κs = search rules
 
 fails-requires : tie.Need-fails-requires
 fails-requires c κs = search rules
 
-returns : tie.Need-returns
+returns : tie.Need-returns-then-risen-ne0
 unfolding loop_held
 returns c =
     let risen = c.before.before.before in
     settling_refused (loop risen) (held risen) c.fails.result (s risen).args.rank.now _ _
-    (rise_told (loop risen) (held risen) _ _ (fault_refused risen.rises.result _ risen.rises.ensures c.before.if1.true)) c.fails.ensures
+    (rise_told (loop risen) (held risen) _ _ (fault_refused risen.rises-risen.result _ risen.rises-risen.ensures c.if-risen-ne0.true)) c.fails.ensures
 
-mul-place : tie.Need-overflow-mul-place
+mul-place : tie.Need-overflow_mul-place
 mul-place c = search rules
 
-add-place : tie.Need-overflow-add-place
+add-place : tie.Need-overflow_add-place
 add-place c = search rules
 
-i32-at-requires : tie.Need-i32-at-requires
+i32-at-requires : tie.Need-i32_at-t-requires
 i32-at-requires c κs = search rules
 
-add-y : tie.Need-overflow-add-y
+add-y : tie.Need-overflow_add-y
 add-y c = search rules
 
-mul-y : tie.Need-overflow-mul-y
+mul-y : tie.Need-overflow_mul-y
 mul-y c = search rules
 
-add-y-2 : tie.Need-overflow-add-y-2
+add-y-2 : tie.Need-overflow_add-y-2
 add-y-2 c = search rules
 
 minus-requires : tie.Need-minus-requires
 minus-requires c κs = search rules
 
-longer-ranking-requires : tie.Need-longer-ranking-requires
+longer-ranking-requires : tie.Need-longer_ranking-requires
 longer-ranking-requires c κs =
-    let less = c.before.minus in
+    let less = c.minus in
     let start = s c.before.before.before.before.before in
-    let h = start.pre.1 in (
-      start.pre.0,
+    let h = start.requires.1 in (
+      start.requires.0,
       h.m_few,
       h.n_few,
       omega (arith, h.n_few, h.m_few),
       omega arith,
       omega (arith, h.inside),
       omega (arith, h.inside),
-      rw (to_z-of_z (sfits_of less.type-inv)) less.ensures.1,
-      start.pre.2,
+      rw (to_z-of_z (sfits_of less.type_inv)) less.ensures.1,
+      start.requires.2,
     )
 
-same_length : tie.Need-same-length
+same_length : tie.Need-shape_of-rank
 same_length c = search rules
 
-returns-2 : tie.Need-returns-2
+returns-2 : tie.Need-returns
 unfolding loop_held settling_held longer_held right_at
 returns-2 c =
-    let ranked = c.before.longer-ranking in
+    let ranked = c.longer_ranking in
     let less = c.before.before.before in
     let read = less.before in
     let passed = read.before in
     let risen = passed.before.before in
     let a = (s risen).args in
     let place : 6 + 2 * a.n + 6 + 2 * a.m ≡ Y-place a.n a.m = omega arith in
-    let t_fits = to_z-of_z {w = w64} {z = read.i32-at.result} (fits_abs {z = read.i32-at.result} (omega (arith, read.i32-at.ensures.1))) in
-    let less-is = rw (t_fits, read.i32-at.ensures.0) at less.minus.ensures.0 in
-    settling_ranked (loop risen) (held risen) ranked.result a.rank.now ranked.new.1.1.1.1.1.1.1.1.0
+    let t_fits = to_z-of_z {w = w64} {z = read.i32_at-t.result} (fits_abs {z = read.i32_at-t.result} (omega (arith, read.i32_at-t.ensures.1))) in
+    let less-is = rw (t_fits, read.i32_at-t.ensures.0) at less.minus.ensures.0 in
+    settling_ranked (loop risen) (held risen) ranked.result a.rank.now ranked.new.rank
     (ranking_told_lem (loop risen) (held risen)
-    (fault_done risen.rises.result _ risen.rises.ensures (rise_named _ (loop risen) (held risen)) passed.if1.false))
-    (rw (place, to_z-of_z {w = w64} {z = less.minus.result} (sfits_of less.minus.type-inv), less-is) at ranked.ensures)
+    (fault_done risen.rises-risen.result _ risen.rises-risen.ensures (rise_named _ (loop risen) (held risen)) passed.if-risen-ne0.false))
+    (rw (place, to_z-of_z {w = w64} {z = less.minus.result} (sfits_of less.minus.type_inv), less-is) at ranked.ensures)
 
-pub settling-spec : {M : Type 1} → statement M
-settling-spec =
+pub settling_spec : {M : Type 1} → statement M
+settling_spec =
     tie.close
     (tie.spec
     rises-requires

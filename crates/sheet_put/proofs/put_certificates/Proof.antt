@@ -15,118 +15,118 @@ use Rattle.sheet_text.proofs.TextLaws.{lines_none, lines_turn}
 use Rattle.sheet_put.proofs.put_certificates.Statement.{statement}
 use Rattle.sheet_put.proofs.put_certificates.Tie as tie
 
-abbrev invariant-loop : tie.invariant-loop
-invariant-loop text₀ place loopbytes n m certificates at₀ from₀ count₀ text at from count =
+abbrev invariant-loop-from : tie.invariant-loop-from
+invariant-loop-from text₀ place loopbytes n m certificates at₀ from₀ count₀ text at from count =
     (from ≤ length certificates)
     × (count ≤ from + 1)
     × (length text ≡ length text₀)
     × SoFar text₀ place (lines loopbytes 1 (records certificates)) (lines loopbytes count (records (drop from certificates))) at text
 
-abbrev decreases-loop : tie.decreases-loop
-decreases-loop text₀ place loopbytes n m certificates at₀ from₀ count₀ text at from count = length certificates - from
+abbrev decreases-loop-from : tie.decreases-loop-from
+decreases-loop-from text₀ place loopbytes n m certificates at₀ from₀ count₀ text at from count = length certificates - from
 
 -- one turn: the first record of the bytes that are left
-module _ (c : tie.After-first-end invariant-loop decreases-loop) where
-  abbrev at_loop : tie.At-loop invariant-loop decreases-loop
+module _ (c : tie.After-first_end-end invariant-loop-from decreases-loop-from) where
+  abbrev at_loop : tie.At-loop-from invariant-loop-from decreases-loop-from
   at_loop = c.before.before.before
 
-  abbrev start : tie.Start invariant-loop decreases-loop
+  abbrev start : tie.Start invariant-loop-from decreases-loop-from
   start = at_loop.before.before.before.before
 
   abbrev left : List ℕ
-  left = drop at_loop.loop.from start.args.certificates.now
+  left = drop at_loop.loop-from.from start.args.certificates.now
 
   abbrev part : List ℕ
-  part = take (length start.args.certificates.now - at_loop.loop.from) left
+  part = take (length start.args.certificates.now - at_loop.loop-from.from) left
 
-  long : length left ≡ length start.args.certificates.now - at_loop.loop.from
-  long = length-drop at_loop.loop.from start.args.certificates.now
+  long : length left ≡ length start.args.certificates.now - at_loop.loop-from.from
+  long = length-drop at_loop.loop-from.from start.args.certificates.now
 
   part_is : part ≡ left
-  part_is = take_all (length start.args.certificates.now - at_loop.loop.from) left (omega (arith, long))
+  part_is = take_all (length start.args.certificates.now - at_loop.loop-from.from) left (omega (arith, long))
 
-  end_is : c.first-end.result ≡ taken left
-  end_is = rw part_is at c.first-end.ensures
+  end_is : c.first_end-end.result ≡ taken left
+  end_is = rw part_is at c.first_end-end.ensures
 
   some : 0 < length left
   some = omega (arith, long)
 
-  moves : 0 < c.first-end.result
+  moves : 0 < c.first_end-end.result
   moves = omega (arith, end_is, taken_some left some)
 
-  within : c.first-end.result ≤ length left
+  within : c.first_end-end.result ≤ length left
   within = omega (arith, end_is, taken_within left)
 
   -- the line of this turn, and those after it
   abbrev this-line : List ℕ
-  this-line = certificate_line start.args.loopbytes.now at_loop.loop.count (take c.first-end.result part)
+  this-line = certificate_line start.args.loopbytes.now at_loop.loop-from.count (take c.first_end-end.result part)
 
   abbrev other_lines : List ℕ
-  other_lines = lines start.args.loopbytes.now (at_loop.loop.count + 1) (records (drop (at_loop.loop.from + c.first-end.result) start.args.certificates.now))
+  other_lines = lines start.args.loopbytes.now (at_loop.loop-from.count + 1) (records (drop (at_loop.loop-from.from + c.first_end-end.result) start.args.certificates.now))
 
-  lines_are : lines start.args.loopbytes.now at_loop.loop.count (records left) ≡ this-line ++ other_lines
-  lines_are = lines_turn start.args.loopbytes.now at_loop.loop.count start.args.certificates.now part at_loop.loop.from c.first-end.result part_is end_is some
+  lines_are : lines start.args.loopbytes.now at_loop.loop-from.count (records left) ≡ this-line ++ other_lines
+  lines_are = lines_turn start.args.loopbytes.now at_loop.loop-from.count start.args.certificates.now part at_loop.loop-from.from c.first_end-end.result part_is end_is some
 
-  far : SoFar start.args.text.now start.args.place (lines start.args.loopbytes.now 1 (records start.args.certificates.now)) (this-line ++ other_lines) at_loop.loop.at at_loop.loop.text
-  far = rw lines_are at at_loop.loop.inv.3
+  far : SoFar start.args.text.now start.args.place (lines start.args.loopbytes.now 1 (records start.args.certificates.now)) (this-line ++ other_lines) at_loop.loop-from.at at_loop.loop-from.text
+  far = rw lines_are at at_loop.loop-from.invariant.3
 
-loop-holds : tie.Need-loop-init invariant-loop decreases-loop
+loop-holds : tie.Need-loop-from-init invariant-loop-from decreases-loop-from
 loop-holds c = (omega arith, omega arith, refl, so_far_none _ _ _)
 
-sub-rest : tie.Need-overflow-sub-rest invariant-loop decreases-loop
+sub-rest : tie.Need-slice_bounds-rest-count invariant-loop-from decreases-loop-from
 sub-rest c = search rules
 
-part-rest-start : tie.Need-slice-bounds-rest-start invariant-loop decreases-loop
+part-rest-start : tie.Need-slice_bounds-rest-start invariant-loop-from decreases-loop-from
 part-rest-start c = search rules
 
-part-rest-end : tie.Need-slice-bounds-rest-end invariant-loop decreases-loop
+part-rest-end : tie.Need-slice_bounds-rest-end invariant-loop-from decreases-loop-from
 part-rest-end c = search rules
 
-first-end-requires : tie.Need-first-end-requires invariant-loop decreases-loop
+first-end-requires : tie.Need-first_end-end-requires invariant-loop-from decreases-loop-from
 first-end-requires c κs = search rules
 
-slice-aggregate-put-certificate : tie.Need-slice-aggregate-put-certificate invariant-loop decreases-loop
-slice-aggregate-put-certificate c = let e = c.before.before in rw (part_is e) (sym (length-take-le _ _ (within e)))
+slice-aggregate-put-certificate : tie.Need-slice_bounds-put_certificate-end invariant-loop-from decreases-loop-from
+slice-aggregate-put-certificate c = let e = c.before in rw (part_is e) (sym (length-take-le _ _ (within e)))
 
-put-certificate-requires : tie.Need-put-certificate-requires invariant-loop decreases-loop
+put-certificate-requires : tie.Need-put_certificate-at-requires invariant-loop-from decreases-loop-from
 put-certificate-requires c κs =
-    let e = c.before.before in
-    ((start e).requires.0, omega (arith, (at_loop e).loop.invariant.2, so_far_room (this-line e) (other_lines e) (far e) (start e).requires.1))
+    let e = c.before in
+    ((start e).requires.0, omega (arith, (at_loop e).loop-from.invariant.2, so_far_room (this-line e) (other_lines e) (far e) (start e).requires.1))
 
-add-from : tie.Need-overflow-add-from invariant-loop decreases-loop
-add-from c = let e = c.before.before.before.before.before in record { fits = omega (arith, within e, long e) }
+add-from : tie.Need-overflow_add-from invariant-loop-from decreases-loop-from
+add-from c = let e = c.before.before.before.before in record { fits = omega (arith, within e, long e) }
 
-add-count : tie.Need-overflow-add-count invariant-loop decreases-loop
-add-count c = let e = c.before.before.before.before.before in record { fits = omega (arith, long e, some e) }
+add-count : tie.Need-overflow_add-count invariant-loop-from decreases-loop-from
+add-count c = let e = c.before.before.before.before in record { fits = omega (arith, long e, some e) }
 
-loop-less : tie.Need-loop-smaller invariant-loop decreases-loop
-loop-less c = let e = c.before.before.before.before.before in omega (arith, within e, moves e, long e)
+loop-less : tie.Need-loop-from-smaller invariant-loop-from decreases-loop-from
+loop-less c = let e = c.before.before.before.before in omega (arith, within e, moves e, long e)
 
-loop-again : tie.Need-loop-preserved invariant-loop decreases-loop
+loop-again : tie.Need-loop-from-preserved invariant-loop-from decreases-loop-from
 loop-again c =
-    let e = c.before.before.before.before.before in (
+    let e = c.before.before.before.before in (
       omega (arith, within e, long e),
       omega (arith, moves e),
-      c.before.before.put-certificate.auto.0 ∙ (at_loop e).loop.invariant.2,
-      so_far_more (this-line e) (other_lines e) (far e) (start e).requires.1 c.before.before.put-certificate.ensures,
+      c.put_certificate-at.auto.text ∙ (at_loop e).loop-from.invariant.2,
+      so_far_more (this-line e) (other_lines e) (far e) (start e).requires.1 c.put_certificate-at.ensures,
     )
 
-same_length : tie.Need-same-length invariant-loop decreases-loop
-same_length c = c.before.loop.invariant.2
+same_length : tie.Need-shape_of-text invariant-loop-from decreases-loop-from
+same_length c = c.loop-from.invariant.2
 
-returns : tie.Need-returns invariant-loop decreases-loop
+returns : tie.Need-returns invariant-loop-from decreases-loop-from
 returns c =
-    let l = c.before.loop in
-    let certificates = c.before.before.before.before.before.args.certificates.now in
+    let l = c.loop-from in
+    let certificates = c.args.certificates.now in
     let none : drop l.from certificates ≡ [] = drop_of_length-le certificates {i = l.from} (omega arith) in
     so_far_all (rw (none, lines_none) at l.invariant.3)
 
-pub put-certificates-spec : {M : Type 1} → statement M
-put-certificates-spec =
+pub put_certificates_spec : {M : Type 1} → statement M
+put_certificates_spec =
     tie.close
     (tie.spec
-    invariant-loop
-    decreases-loop
+    invariant-loop-from
+    decreases-loop-from
     loop-holds
     sub-rest
     part-rest-start

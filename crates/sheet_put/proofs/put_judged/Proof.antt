@@ -25,70 +25,67 @@ abbrev text_of : tie.Start → List ℕ
 text_of s = judged (first sound (loop_record s.args.loopbytes.now)) s.args.loopbytes.now s.args.certificates.now
 
 -- where `loop` was written, what was found before that, and where it began
-abbrev found_at : tie.After-put-bytes → tie.After-check-loop
-found_at w = w.before.before.before
+abbrev found_at : tie.After-put_bytes-at → tie.After-check_loop-found
+found_at w = w.before.before.before.before
 
-abbrev start_of : tie.After-put-bytes → tie.Start
+abbrev start_of : tie.After-put_bytes-at → tie.Start
 start_of w = (found_at w).before.before.before.before
 
-abbrev words_of : tie.After-put-bytes → List (List ℕ)
-words_of w = decimal (found_at w).check-loop.result.n ∷ decimal (found_at w).check-loop.result.m ∷ []
+abbrev words_of : tie.After-put_bytes-at → List (List ℕ)
+words_of w = decimal (found_at w).check_loop-found.result.n ∷ decimal (found_at w).check_loop-found.result.m ∷ []
 
-abbrev fault_of : tie.After-put-bytes → List (List ℕ)
-fault_of w = bytes "refused" ∷ decimal (found_at w).check-loop.result.number ∷ decimal (found_at w).check-loop.result.place ∷ []
+abbrev fault_of : tie.After-put_bytes-at → List (List ℕ)
+fault_of w = bytes "refused" ∷ decimal (found_at w).check_loop-found.result.number ∷ decimal (found_at w).check_loop-found.result.place ∷ []
 
-abbrev lines_of : tie.After-put-bytes → List ℕ
+abbrev lines_of : tie.After-put_bytes-at → List ℕ
 lines_of w = lines (start_of w).args.loopbytes.now 1 (records (start_of w).args.certificates.now)
 
 -- the text, if the loop is refused
-refused-is : (c : tie.Then1) → let w = c.before.before.before.before in text_of (start_of w) ≡ loop_word ++ line (fault_of w)
+refused-is : (c : tie.Then-found-ne0) → let w = c.before.before.before.before in text_of (start_of w) ≡ loop_word ++ line (fault_of w)
 refused-is c =
     let w = c.before.before.before.before in
     let a = (start_of w).args in
-    judged_refused a.loopbytes.now a.certificates.now _ _ (loop_refused a.loopbytes.now (found_at w).check-loop.result (found_at w).check-loop.ensures c.if1.true)
+    judged_refused a.loopbytes.now a.certificates.now _ _ (loop_refused a.loopbytes.now (found_at w).check_loop-found.result (found_at w).check_loop-found.ensures c.if-found-ne0.true)
 
 -- and if it is sound
-sound-is : (c : tie.Else1) → let w = c.before.before.before.before in LoopSound (start_of w).args.loopbytes.now (found_at w).check-loop.result.n (found_at w).check-loop.result.m
+sound-is : (c : tie.Else-found-ne0) → let w = c.before.before.before.before in LoopSound (start_of w).args.loopbytes.now (found_at w).check_loop-found.result.n (found_at w).check_loop-found.result.m
 sound-is c =
     let w = c.before.before.before.before in
-    loop_sound (start_of w).args.loopbytes.now (found_at w).check-loop.result (found_at w).check-loop.ensures c.if1.false
+    loop_sound (start_of w).args.loopbytes.now (found_at w).check_loop-found.result (found_at w).check_loop-found.ensures c.if-found-ne0.false
 
-lines_are : (c : tie.Else1) → let w = c.before.before.before.before in text_of (start_of w) ≡ loop_word ++ (line (words_of w) ++ lines_of w)
+lines_are : (c : tie.Else-found-ne0) → let w = c.before.before.before.before in text_of (start_of w) ≡ loop_word ++ (line (words_of w) ++ lines_of w)
 lines_are c = let a = (start_of c.before.before.before.before).args in let s = sound-is c in judged_sound a.loopbytes.now a.certificates.now _ _ s.told s.n_is s.m_is
 
-check-loop-requires : tie.Need-check-loop-requires
+check-loop-requires : tie.Need-check_loop-found-requires
 check-loop-requires c κs = search rules
 
-slice-aggregate-put-bytes : tie.Need-slice-aggregate-put-bytes
-slice-aggregate-put-bytes c = search rules
-
-put-bytes-requires : tie.Need-put-bytes-requires
+put-bytes-requires : tie.Need-put_bytes-at-requires
 put-bytes-requires c κs =
-    let s = c.before.before.before.before.before.before in
+    let s = c in
     omega (arith, s.requires, judged_first s.args.loopbytes.now s.args.certificates.now (first sound (loop_record s.args.loopbytes.now)))
 
-put-refusal-requires : tie.Need-put-refusal-requires
+put-refusal-requires : tie.Need-put_refusal-requires
 put-refusal-requires c κs =
     let t = c.before in
     let w = t.before.before.before.before in
-    omega (arith, (start_of w).requires, w.put-bytes.ensures.end_is, w.put-bytes.auto.0, simp length-append at (ap length (refused-is t)))
+    omega (arith, (start_of w).requires, w.put_bytes-at.ensures.end_is, w.put_bytes-at.auto.text, simp length-append at (ap length (refused-is t)))
 
-same_length : tie.Need-same-length
+same_length : tie.Need-shape_of-text-then-found-ne0
 same_length c = search rules
 
-returns : tie.Need-returns
+returns : tie.Need-returns-then-found-ne0
 returns c =
     let t = c.before.before.before.before in
     let w = t.before.before.before.before in
-    rw (refused-is t) (puts_on loop_word (line (fault_of w)) (omega (arith, (start_of w).requires, ap length (refused-is t))) w.put-bytes.ensures c.before.before.put-refusal.ensures)
+    rw (refused-is t) (puts_on loop_word (line (fault_of w)) (omega (arith, (start_of w).requires, ap length (refused-is t))) w.put_bytes-at.ensures c.put_refusal.ensures)
 
-put-pair-requires : tie.Need-put-pair-requires
+put-pair-requires : tie.Need-put_pair-at-requires
 put-pair-requires c κs =
     let t = c.before in
     let w = t.before.before.before.before in
-    omega (arith, (start_of w).requires, w.put-bytes.ensures.end_is, w.put-bytes.auto.0, simp length-append at (ap length (lines_are t)))
+    omega (arith, (start_of w).requires, w.put_bytes-at.ensures.end_is, w.put_bytes-at.auto.text, simp length-append at (ap length (lines_are t)))
 
-put-certificates-requires : tie.Need-put-certificates-requires
+put-certificates-requires : tie.Need-put_certificates-requires
 put-certificates-requires c κs =
     let p = c.before.before.before in
     let t = p.before.before in
@@ -97,34 +94,33 @@ put-certificates-requires c κs =
       omega (
         arith,
         (start_of w).requires,
-        w.put-bytes.ensures.end_is,
-        w.put-bytes.auto.0,
-        p.put-pair.ensures.end_is,
-        p.put-pair.auto.0,
+        w.put_bytes-at.ensures.end_is,
+        w.put_bytes-at.auto.text,
+        p.put_pair-at.ensures.end_is,
+        p.put_pair-at.auto.text,
         simp length-append at (ap length (lines_are t)),
       ),
     )
 
-same-length-2 : tie.Need-same-length-2
+same-length-2 : tie.Need-shape_of-text
 same-length-2 c = search rules
 
-returns-2 : tie.Need-returns-2
+returns-2 : tie.Need-returns
 returns-2 c =
     let p = c.before.before.before.before.before.before in
     let t = p.before.before in
     let w = t.before.before.before.before in
     let size = simp length-append at (ap length (lines_are t)) in
     rw (lines_are t)
-    (puts_on loop_word (line (words_of w) ++ lines_of w) (omega (arith, (start_of w).requires, size)) w.put-bytes.ensures
-    (puts_on (line (words_of w)) (lines_of w) (omega (arith, (start_of w).requires, size, w.put-bytes.ensures.end_is, w.put-bytes.auto.0)) p.put-pair.ensures
-    c.before.before.put-certificates.ensures))
+    (puts_on loop_word (line (words_of w) ++ lines_of w) (omega (arith, (start_of w).requires, size)) w.put_bytes-at.ensures
+    (puts_on (line (words_of w)) (lines_of w) (omega (arith, (start_of w).requires, size, w.put_bytes-at.ensures.end_is, w.put_bytes-at.auto.text)) p.put_pair-at.ensures
+    c.put_certificates.ensures))
 
-pub put-judged-spec : {M : Type 1} → statement M
-put-judged-spec =
+pub put_judged_spec : {M : Type 1} → statement M
+put_judged_spec =
     tie.close
     (tie.spec
     check-loop-requires
-    slice-aggregate-put-bytes
     put-bytes-requires
     put-refusal-requires
     same_length
