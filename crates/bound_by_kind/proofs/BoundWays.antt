@@ -14,7 +14,7 @@ use Rattle.verdict.specs.Bounding.{bounded, bounds, bound_of}
 use Rattle.verdict.specs.Stages.{agreed, refusal, said, verdict_of}
 use Rattle.verdict.specs.StateTests.{state_tests}
 use Rattle.verdict.proofs.StageLaws.{by_told, stage_done, stage_refused, agrees_said}
-use Rattle.verdict.proofs.StatesInRange.{StateIn, state_fits}
+use Rattle.verdict.proofs.StatesInRange.{StateIn as StateInRange, state_fits}
 use Rattle.verdict.proofs.SmallSums.{small_state}
 use Rattle.verdict_settling.specs.AnswersByKind.{of_settling, pair_of, bounding_of, bounded_by_kind}
 use Rattle.verdict_settling.specs.SettlingJudging.{SettlingPair, SettlingBounding, variables_of, loop_of, settling_of, loop_told, certificate_told}
@@ -39,7 +39,7 @@ steps_are certificate n m state = refl
 -- a state that passes its tests
 pub state_in : (state : List ℤ) (n : ℕ) → n ≤ 16 → StateFits state n → StateIn state n
 state_in state n few fits =
-    let is : StateIn (record { n = n; state = state }) = (state_fits (record { n = n; state = state })).0 fits in
+    let is : StateInRange (record { n = n; state = state }) = (state_fits (record { n = n; state = state })).0 fits in
     let small = small_state state is.each in
     record { few = few; long = is.counted; small = λ i. omega (arith, small i) }
 

@@ -1,6 +1,2 @@
-pub mod LentOn
-pub mod Called
 pub mod Turns
-pub mod Handed
-pub mod Calls
 pub mod OneAnswer

@@ -1,5 +1,4 @@
-// A job's certificates at once, with a lent row of verdicts: one thin function over the covered judge of one record. The borrow checker covers
-// no slice of structs, so this one function is proved by a walk of its code, by hand.
+// A job's certificates at once, with a lent row of verdicts: one thin function over the judge of one record.
 #![tactic(auto)]
 
 ghost use Rattle.std.specs.Prelude.{◌≡◌, length};

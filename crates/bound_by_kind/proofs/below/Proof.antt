@@ -13,37 +13,37 @@ use Rattle.whole.proofs.Solve.{v, ◌⊝◌, solve_le, lt_fact}
 use Rattle.bound_by_kind.proofs.below.Statement.{statement}
 use Rattle.bound_by_kind.proofs.below.Tie as tie
 
-module _ (c : tie.Then1) where
+module _ (c : tie.Then-value-threshold) where
   abbrev s : tie.Start
   s = c.before
 
   lies-below : lt_z s.args.value s.args.threshold ≡ true
-  lies-below = rw (to_z-of_z s.fits.value, to_z-of_z s.fits.threshold) at c.if1.true
+  lies-below = rw (to_z-of_z s.ranges.value, to_z-of_z s.ranges.threshold) at c.if-value-threshold.true
 
   difference : SFits w64 (s.args.threshold -ℤ s.args.value)
-  difference = fits_abs {z = s.args.threshold -ℤ s.args.value} (omega (arith, s.pre))
+  difference = fits_abs {z = s.args.threshold -ℤ s.args.value} (omega (arith, s.requires))
 
   no_less : pos 0 ≤ℤ (s.args.threshold -ℤ s.args.value)
   no_less =
       let a = s.args in
       solve_le (v (pos 0)) (v a.threshold ⊝ v a.value) (omega (arith, lt_fact (v a.value) (v a.threshold) (true_lt _ _ lies-below)))
 
-sub-result : tie.Need-overflow-sub-result
-sub-result c = rw (to_z-of_z c.before.ranges.threshold, to_z-of_z c.before.ranges.value) (difference c)
+sub-result : tie.Need-overflow_sub-result
+sub-result c = rw (to_z-of_z c.ranges.threshold, to_z-of_z c.ranges.value) (difference c)
 
-cast-result : tie.Need-overflow-cast-result
+cast-result : tie.Need-overflow_cast-result
 cast-result c =
-    rw (to_z-of_z c.before.ranges.threshold, to_z-of_z c.before.ranges.value, to_z-of_z (difference c))
-    (yes_non_neg (no_less c), record { fits = omega (arith, c.before.requires) })
+    rw (to_z-of_z c.ranges.threshold, to_z-of_z c.ranges.value, to_z-of_z (difference c))
+    (yes_non_neg (no_less c), record { fits = omega (arith, c.requires) })
 
-returns : tie.Need-returns
-returns c = rw (to_z-of_z c.before.ranges.threshold, to_z-of_z c.before.ranges.value, to_z-of_z (difference c), lies-below c)
+returns : tie.Need-returns-then-value-threshold
+returns c = rw (to_z-of_z c.ranges.threshold, to_z-of_z c.ranges.value, to_z-of_z (difference c), lies-below c)
 
-returns-2 : tie.Need-returns-2
+returns-2 : tie.Need-returns
 returns-2 c =
-    let test : lt_z c.before.args.value c.before.args.threshold ≡ false
-    = rw (to_z-of_z c.before.ranges.value, to_z-of_z c.before.ranges.threshold) at c.if1.false in
+    let test : lt_z c.args.value c.args.threshold ≡ false
+    = rw (to_z-of_z c.ranges.value, to_z-of_z c.ranges.threshold) at c.if-value-threshold.false in
     rw test
 
-pub below-spec : {M : Type 1} → statement M
-below-spec = tie.close (tie.spec sub-result cast-result returns returns-2)
+pub below_spec : {M : Type 1} → statement M
+below_spec = tie.close (tie.spec sub-result cast-result returns returns-2)

@@ -21,95 +21,95 @@ use Rattle.bound_by_kind.proofs.settling_sound.Tie as tie
 
 -- ---- where the certificate was checked: the start of the call; where it is sound; and where the state is in range
 
-abbrev start : tie.After-check-settling → tie.Start
+abbrev start : tie.After-check_settling-fault → tie.Start
 start c = c.before.before.before
 
 abbrev given : tie.Start → GivenState
 given s = record { n = s.args.n; state = s.args.state.now }
 
-module _ (c : tie.Else1) where
+module _ (c : tie.Else-fault-ne0) where
   abbrev s : tie.Start
   s = start c.before.before
 
   sound : certificate_told (pair_of s.args.loopbytes.now s.args.certificate.now) ≡ done
   sound =
       let a = s.args in
-      let f = c.before.before.check-settling in
-      certificate_sound a.loopbytes.now a.certificate.now a.n a.m s.pre f.result f.ensures c.if1.false
+      let f = c.check_settling-fault in
+      certificate_sound a.loopbytes.now a.certificate.now a.n a.m s.requires f.result f.ensures c.if-fault-ne0.false
 
   there : SettlingIn s.args.certificate.now s.args.n s.args.m
   there =
       let a = s.args in
-      let f = c.before.before.check-settling in
-      certificate_there a.loopbytes.now a.certificate.now a.n a.m s.pre f.result f.ensures c.if1.false
+      let f = c.check_settling-fault in
+      certificate_there a.loopbytes.now a.certificate.now a.n a.m s.requires f.result f.ensures c.if-fault-ne0.false
 
-module _ (c : tie.Else2) where
-  abbrev passed : tie.Else1
+module _ (c : tie.Else-unfit-ne0) where
+  abbrev passed : tie.Else-fault-ne0
   passed = c.before.before.before
 
   fits : StateFits (s passed).args.state.now (s passed).args.n
   fits =
-      let f = c.before.before.state-fault in
-      fault_done f.result (first state_tests (given (s passed))) f.ensures (state_named (given (s passed))) c.if2.false
+      let f = c.state_fault-unfit in
+      fault_done f.result (first state_tests (given (s passed))) f.ensures (state_named (given (s passed))) c.if-unfit-ne0.false
 
-check-settling-requires : tie.Need-check-settling-requires
-check-settling-requires c κs = let l = c.before.before.requires in (n_few _ _ _ l, m_few _ _ _ l)
+check-settling-requires : tie.Need-check_settling-fault-requires
+check-settling-requires c κs = let l = c.requires in (n_few _ _ _ l, m_few _ _ _ l)
 
 refused-requires : tie.Need-refused-requires
 refused-requires c κs = search rules
 
-returns : tie.Need-returns
+returns : tie.Need-returns-then-fault-ne0
 returns c =
     let asked = c.before.before.before in
     let s = start asked in
     let a = s.args in
-    let f = asked.check-settling in
+    let f = asked.check_settling-fault in
     c.refused.ensures
-    ∙ at_certificate a.loopbytes.now a.certificate.now a.state.now s.pre.told _ _
-    (certificate_refused a.loopbytes.now a.certificate.now a.n a.m s.pre f.result f.ensures c.before.if1.true)
+    ∙ at_certificate a.loopbytes.now a.certificate.now a.state.now s.requires.told _ _
+    (certificate_refused a.loopbytes.now a.certificate.now a.n a.m s.requires f.result f.ensures c.if-fault-ne0.true)
 
-state-fault-requires : tie.Need-state-fault-requires
+state-fault-requires : tie.Need-state_fault-unfit-requires
 state-fault-requires c κs = search rules
 
-refused-requires-2 : tie.Need-refused-requires-2
+refused-requires-2 : tie.Need-refused-requires-then-unfit-ne0
 refused-requires-2 c κs = search rules
 
-returns-2 : tie.Need-returns-2
+returns-2 : tie.Need-returns-then-unfit-ne0
 returns-2 c =
     let tested = c.before.before.before in
     let passed = tested.before in
     let a = (s passed).args in
-    let f = tested.state-fault in
-    c.refused2.ensures
+    let f = tested.state_fault-unfit in
+    c.refused-then-unfit-ne0.ensures
     ∙ at_state a.loopbytes.now a.certificate.now a.state.now a.n a.m (s passed).requires (sound passed) _ _
-    (fault_refused f.result (first state_tests (given (s passed))) f.ensures c.before.if2.true)
+    (fault_refused f.result (first state_tests (given (s passed))) f.ensures c.if-unfit-ne0.true)
 
-slice-aggregate-settling : tie.Need-slice-aggregate-settling
+slice-aggregate-settling : tie.Need-slice_bounds-settling-end
 slice-aggregate-settling c = search rules
 
-settling-requires : tie.Need-settling-requires
+settling-requires : tie.Need-settling-shown-requires
 settling-requires c κs =
-    let l = (s (passed c.before)).pre in
+    let l = (s (passed c.before)).requires in
     (rows_in _ _ _ l, there (passed c.before), n_few _ _ _ l)
 
-settled-bound-requires : tie.Need-settled-bound-requires
+settled-bound-requires : tie.Need-settled_bound-requires
 settled-bound-requires c κs =
     let tested = c.before.before.before in
     let a = (s (passed tested)).args in
-    (omega (arith, (there (passed tested)).inside), state_in a.state.now a.n (n_few _ _ _ (s (passed tested)).pre) (fits tested))
+    (omega (arith, (there (passed tested)).inside), state_in a.state.now a.n (n_few _ _ _ (s (passed tested)).requires) (fits tested))
 
-returns-3 : tie.Need-returns-3
+returns-3 : tie.Need-returns
 returns-3 c =
-    let called = c.before.before.settling in
+    let called = c.settling-shown in
     let tested = c.before.before.before.before in
     let sure = passed tested in
     let a = (s sure).args in
-    c.settled-bound.ensures
-    ∙ by_conditions a.loopbytes.now a.certificate.now a.state.now a.n a.m (s sure).pre (sound sure) (fits tested)
-    called.result (replicate 16 (pos 0)) called.new.1.1.1.1.1.0 called.ensures
+    c.settled_bound.ensures
+    ∙ by_conditions a.loopbytes.now a.certificate.now a.state.now a.n a.m (s sure).requires (sound sure) (fits tested)
+    called.result (replicate 16 (pos 0)) called.new.rank called.ensures
 
-pub settling-sound-spec : {M : Type 1} → statement M
-settling-sound-spec =
+pub settling_sound_spec : {M : Type 1} → statement M
+settling_sound_spec =
     tie.close
     (tie.spec
     check-settling-requires

@@ -21,38 +21,38 @@ use Rattle.bound_by_kind.proofs.steps_at.Tie as tie
 
 -- ---- once t is read: the start of the call; g·x and t as they are passed on, and their difference
 
-module _ (c : tie.After-struct-told) where
+module _ (c : tie.After-struct_told-1) where
   abbrev s : tie.Start
   s = c.before.before.before.before
 
-  value-fits : (let z = c.before.before.entries_at.result.sum in to_z w64 (of_z w64 z) ≡ z)
-  value-fits = to_z-of_z (sfits_of c.before.before.entries_at.type-inv.1.1.0.1)
+  value-fits : (let z = c.entries_at-reached.result.sum in to_z w64 (of_z w64 z) ≡ z)
+  value-fits = to_z-of_z {w = w64} (sfits_of c.entries_at-reached.type_inv.1.1.0.1)
 
-  t_fits : (let z = c.before.i32-at.result in to_z w64 (of_z w64 z) ≡ z)
-  t_fits = to_z-of_z (sfits_of c.before.i32-at.type-inv)
+  t_fits : (let z = c.i32_at.result in to_z w64 (of_z w64 z) ≡ z)
+  t_fits = to_z-of_z {w = w64} (sfits_of c.i32_at.type_inv)
 
-  difference : nat_abs (c.before.i32-at.result -ℤ c.before.before.entries_at.result.sum) < 9223372036854775808
+  difference : nat_abs (c.i32_at.result -ℤ c.entries_at-reached.result.sum) < 9223372036854775808
   difference =
-      let reached = c.before.before.entries_at in
-      let t = c.before.i32-at in
-      let h = s.pre.1 in
+      let reached = c.entries_at-reached in
+      let t = c.i32_at in
+      let h = s.requires.1 in
       omega (arith, abs_add t.result (neg_ℤ reached.result.sum), abs_neg reached.result.sum, reached.ensures.small, t.ensures.1, h.few, h.long)
 
-  value-is : (let a = s.args in c.before.before.entries_at.result.sum ≡ dot (entries_from a.certificate.now g_place a.n) a.state.now)
+  value-is : (let a = s.args in c.entries_at-reached.result.sum ≡ dot (entries_from a.certificate.now g_place a.n) a.state.now)
   value-is =
       let a = s.args in
-      c.before.before.entries_at.ensures.is ∙ state_dot a.certificate.now g_place a.state.now ∙ rw s.pre.1.long
+      c.entries_at-reached.ensures.is ∙ state_dot a.certificate.now g_place a.state.now ∙ rw s.requires.1.long
 
-entries-at-requires : tie.Need-entries-at-requires
+entries-at-requires : tie.Need-entries_at-reached-requires
 entries-at-requires c κs = search rules
 
-mul-i32-at : tie.Need-overflow-mul-i32-at
+mul-i32-at : tie.Need-overflow_mul-n
 mul-i32-at c = search rules
 
-add-i32-at : tie.Need-overflow-add-i32-at
+add-i32-at : tie.Need-overflow_add-n
 add-i32-at c = search rules
 
-i32-at-requires : tie.Need-i32-at-requires
+i32-at-requires : tie.Need-i32_at-requires
 i32-at-requires c κs = search rules
 
 below-requires : tie.Need-below-requires
@@ -63,9 +63,9 @@ unfolding steps_held right_at
 returns c =
     let told = c.before in
     rw (value-fits told, t_fits told) at c.below.ensures
-    ∙ ap₂ (λ (value t : ℤ). cond (lt_z value t) (nat_abs (t -ℤ value)) 0) (value-is told) told.before.i32-at.ensures.0
+    ∙ ap₂ (λ (value t : ℤ). cond (lt_z value t) (nat_abs (t -ℤ value)) 0) (value-is told) told.i32_at.ensures.0
 
-pub steps-at-spec : {M : Type 1} → statement M
-steps-at-spec =
+pub steps_at_spec : {M : Type 1} → statement M
+steps_at_spec =
     tie.close
     (tie.spec entries-at-requires mul-i32-at add-i32-at i32-at-requires below-requires returns)

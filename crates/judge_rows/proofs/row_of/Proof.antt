@@ -16,11 +16,11 @@ word-requires-2 c κs = search rules
 returns : tie.Need-returns
 unfolding row_of
 returns c =
-    let told = c.before.before.before.struct_told.given in
-    let v = c.before.before.before.before.args.v in
+    let told = c.struct_told-1.given in
+    let v = c.args.v in
     let start = to_z-of_z {w = w64} {z = v.start} (record { sfits = told.1.1.1.1.0.1 }) in
     let fall = to_z-of_z {w = w64} {z = v.fall} (record { sfits = told.1.1.1.1.1.0.1 }) in
-    rw (c.before.before.word.ensures, c.word2.ensures, start, fall) refl
+    rw (c.word.ensures, c.word-2.ensures, start, fall) refl
 
-pub row-of-spec : {M : Type 1} → statement M
-row-of-spec = tie.close (tie.spec word-requires word-requires-2 returns)
+pub row_of_spec : {M : Type 1} → statement M
+row_of_spec = tie.close (tie.spec word-requires word-requires-2 returns)

@@ -16,40 +16,40 @@ use Rattle.judge_rows.proofs.word.Tie as tie
 
 -- ---- below 0: -1 - z is one less than its size
 
-module _ (c : tie.Then1) where
-  below : c.before.args.z <ℤ pos 0
-  below = true_lt c.before.args.z (pos 0) (rw (to_z-of_z c.before.ranges.z) at c.if1.true)
+module _ (c : tie.Then-z-lt0) where
+  below : c.args.z <ℤ pos 0
+  below = true_lt c.args.z (pos 0) (rw (to_z-of_z c.ranges.z) at c.if-z-lt0.true)
 
-  meant : negsuc 0 -ℤ to_z w64 (of_z w64 c.before.args.z) ≡ pos (nat_abs c.before.args.z - 1)
-  meant = rw (to_z-of_z c.before.ranges.z) (size_below_zero c.before.args.z below).0
+  meant : negsuc 0 -ℤ to_z w64 (of_z w64 c.args.z) ≡ pos (nat_abs c.args.z - 1)
+  meant = rw (to_z-of_z c.ranges.z) (size_below_zero c.args.z below).0
 
-  held : SFits w64 (pos (nat_abs c.before.args.z - 1))
-  held = sfits_of (omega (arith, nat_abs-le c.before.args.z c.before.ranges.z.sfits))
+  held : SFits w64 (pos (nat_abs c.args.z - 1))
+  held = sfits_of (omega (arith, nat_abs-le c.args.z c.ranges.z.sfits))
 
 -- ---- from 0 on
 
-above : (c : tie.Else1) → pos 0 ≤ℤ c.before.args.z
-above c = false_lt c.before.args.z (pos 0) (rw (to_z-of_z c.before.ranges.z) at c.if1.false)
+above : (c : tie.Else-z-lt0) → pos 0 ≤ℤ c.args.z
+above c = false_lt c.args.z (pos 0) (rw (to_z-of_z c.ranges.z) at c.if-z-lt0.false)
 
-sub-result : tie.Need-overflow-sub-result
+sub-result : tie.Need-overflow_sub-result
 sub-result c = rw (meant c) (held c)
 
-cast-result : tie.Need-overflow-cast-result
-cast-result c = rw (meant c, to_z-of_z (held c)) (tt, record { fits = omega (arith, nat_abs-le c.before.args.z c.before.ranges.z.sfits) })
+cast-result : tie.Need-overflow_cast-result
+cast-result c = rw (meant c, to_z-of_z (held c)) (tt, record { fits = omega (arith, nat_abs-le c.args.z c.ranges.z.sfits) })
 
-sub-result-2 : tie.Need-overflow-sub-result-2
-sub-result-2 c = rw (meant c, to_z-of_z (held c)) (omega (arith, nat_abs-le c.before.args.z c.before.ranges.z.sfits))
+sub-result-2 : tie.Need-overflow_sub-result-then-z-lt0
+sub-result-2 c = rw (meant c, to_z-of_z (held c)) (omega (arith, nat_abs-le c.args.z c.ranges.z.sfits))
 
-cast-result-2 : tie.Need-overflow-cast-result-2
+cast-result-2 : tie.Need-overflow_cast-result-else-z-lt0
 cast-result-2 c =
-    rw (to_z-of_z c.before.ranges.z)
-    (yes_non_neg (above c), record { fits = omega (arith, nat_abs-le c.before.args.z c.before.ranges.z.sfits) })
+    rw (to_z-of_z c.ranges.z)
+    (yes_non_neg (above c), record { fits = omega (arith, nat_abs-le c.args.z c.ranges.z.sfits) })
 
-returns : tie.Need-returns
-returns c = rw (meant c, to_z-of_z (held c)) (word_below c.before.args.z (below c))
+returns : tie.Need-returns-then-z-lt0
+returns c = rw (meant c, to_z-of_z (held c)) (word_below c.args.z (below c))
 
-returns-2 : tie.Need-returns-2
-returns-2 c = rw (to_z-of_z c.before.ranges.z) (word_above c.before.args.z (above c))
+returns-2 : tie.Need-returns-else-z-lt0
+returns-2 c = rw (to_z-of_z c.ranges.z) (word_above c.args.z (above c))
 
-pub word-spec : {M : Type 1} → statement M
-word-spec = tie.close (tie.spec sub-result cast-result sub-result-2 cast-result-2 returns returns-2)
+pub word_spec : {M : Type 1} → statement M
+word_spec = tie.close (tie.spec sub-result cast-result sub-result-2 cast-result-2 returns returns-2)

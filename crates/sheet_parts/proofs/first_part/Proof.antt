@@ -22,18 +22,18 @@ use Rattle.sheet_parts.proofs.first_part.Statement.{statement}
 use Rattle.sheet_parts.proofs.first_part.Tie as tie
 
 -- the loop's bytes
-module _ (c : tie.After-first-end) where
+module _ (c : tie.After-first_end-end) where
   abbrev input : List ℕ
-  input = c.before.before.before.before.args.input.now
+  input = c.args.input.now
 
   abbrev loopbytes : List ℕ
-  loopbytes = take c.first-end.result input
+  loopbytes = take c.first_end-end.result input
 
   loopbytes-are : loopbytes ≡ first_record input
-  loopbytes-are = first_is input c.first-end.result c.first-end.ensures
+  loopbytes-are = first_is input c.first_end-end.result c.first_end-end.ensures
 
-  inside : c.first-end.result ≤ length input
-  inside = omega (arith, c.first-end.ensures, taken_within input)
+  inside : c.first_end-end.result ≤ length input
+  inside = omega (arith, c.first_end-end.ensures, taken_within input)
 
   short : length input ≤ 65_536
   short = omega arith
@@ -45,74 +45,74 @@ module _ (c : tie.After-first-end) where
   small : length line ≤ 306
   small = judged_size (first sound (loop_record loopbytes)) loopbytes [] refl (rw loopbytes-are (omega (arith, first_length input))) (omega arith)
 
-put-sheet-requires : tie.Need-put-sheet-requires
+put-sheet-requires : tie.Need-put_sheet-written-requires
 put-sheet-requires c κs =
-    let s = c.before.before.before.before in
+    let s = c in
     omega (arith, s.requires, ap length (text_too_long_line s.args.input.now (omega arith)))
 
-last-part-requires : tie.Need-last-part-requires
+last-part-requires : tie.Need-last_part-requires
 last-part-requires c κs = search rules
 
-same_length : tie.Need-same-length
+same_length : tie.Need-shape_of-room-then-input-gt65536
 same_length c = search rules
 
-returns : tie.Need-returns
+returns : tie.Need-returns-then-input-gt65536
 returns c =
     let p = c.before.before.before in
     let last = c.last_part.ensures in
-    begins_last c.last_part.result p.put-sheet.ensures (put-sheet-requires p.before p.put-sheet.lifetimes) last.0 last.1 last.2
+    begins_last c.last_part.result p.put_sheet-written.ensures (put-sheet-requires p.before p.put_sheet-written.lifetimes) last.0 last.1 last.2
 
-first-end-requires : tie.Need-first-end-requires
+first-end-requires : tie.Need-first_end-end-requires
 first-end-requires c κs = search rules
 
-slice-aggregate-loopbytes : tie.Need-slice-aggregate-loopbytes
-slice-aggregate-loopbytes c = sym (length-take-le _ _ (inside c.before))
+slice-aggregate-loopbytes : tie.Need-slice_bounds-loopbytes-end
+slice-aggregate-loopbytes c = sym (length-take-le _ _ (inside c))
 
-slice-aggregate-put-judged : tie.Need-slice-aggregate-put-judged
+slice-aggregate-put-judged : tie.Need-slice_bounds-put_judged-end
 slice-aggregate-put-judged c = search rules
 
-put-judged-requires : tie.Need-put-judged-requires
-put-judged-requires c κs = let e = c.before.before.before in omega (arith, small e, e.before.before.before.before.requires)
+put-judged-requires : tie.Need-put_judged-written-requires
+put-judged-requires c κs = let e = c.before in omega (arith, small e, e.requires)
 
-check-loop-requires : tie.Need-check-loop-requires
+check-loop-requires : tie.Need-check_loop-found-requires
 check-loop-requires c κs = search rules
 
-last-part-requires-2 : tie.Need-last-part-requires-2
+last-part-requires-2 : tie.Need-last_part-requires-then-found-ne0
 last-part-requires-2 c κs = search rules
 
-same-length-2 : tie.Need-same-length-2
+same-length-2 : tie.Need-shape_of-room-then-found-ne0
 same-length-2 c = search rules
 
 -- a refused loop: its line is all
-returns-2 : tie.Need-returns-2
+returns-2 : tie.Need-returns-then-found-ne0
 returns-2 c =
     let k = c.before.before.before in
     let p = k.before.before.before in
-    let e = p.before.before.before.before in
-    let last = c.last-part2.ensures in
-    let told = loop_refused (loopbytes e) k.check-loop.result k.check-loop.ensures c.before.if2.true in
-    let text_is : sheet_text (input e) ≡ line e = text_refused (input e) e.first-end.result (short e) e.first-end.ensures _ _ told in
-    rw text_is (begins_last c.last-part2.result p.put-judged.ensures (put-judged-requires p.before p.put-judged.lifetimes) last.0 last.1 last.2)
+    let e = p.before.before in
+    let last = c.last_part-then-found-ne0.ensures in
+    let told = loop_refused (loopbytes e) k.check_loop-found.result k.check_loop-found.ensures c.if-found-ne0.true in
+    let text_is : sheet_text (input e) ≡ line e = text_refused (input e) e.first_end-end.result (short e) e.first_end-end.ensures _ _ told in
+    rw text_is (begins_last c.last_part-then-found-ne0.result p.put_judged-written.ensures (put-judged-requires p.before p.put_judged-written.lifetimes) last.0 last.1 last.2)
 
-same-length-3 : tie.Need-same-length-3
+same-length-3 : tie.Need-shape_of-room
 same-length-3 c = search rules
 
 -- a sound one
-returns-3 : tie.Need-returns-3
+returns-3 : tie.Need-returns
 returns-3 c =
     let k = c.before.before in
     let p = k.before.before.before in
-    let e = p.before.before.before.before in
-    let sound-loop = loop_sound (loopbytes e) k.check-loop.result k.check-loop.ensures c.if2.false in
-    let sound-first : LoopSound (first_record (input e)) k.check-loop.result.n k.check-loop.result.m = rw (loopbytes-are e) at sound-loop in
-    let text_is : sheet_text (input e) ≡ line e ++ to_come (input e) e.first-end.result 1
-    = text_sound (input e) e.first-end.result (short e) e.first-end.ensures sound-loop.told in
-    begins _ p.put-judged.ensures (put-judged-requires p.before p.put-judged.lifetimes) refl (sheet_text (input e))
+    let e = p.before.before in
+    let sound-loop = loop_sound (loopbytes e) k.check_loop-found.result k.check_loop-found.ensures c.if-found-ne0.false in
+    let sound-first : LoopSound (first_record (input e)) k.check_loop-found.result.n k.check_loop-found.result.m = rw (loopbytes-are e) at sound-loop in
+    let text_is : sheet_text (input e) ≡ line e ++ to_come (input e) e.first_end-end.result 1
+    = text_sound (input e) e.first_end-end.result (short e) e.first_end-end.ensures sound-loop.told in
+    begins _ p.put_judged-written.ensures (put-judged-requires p.before p.put_judged-written.lifetimes) refl (sheet_text (input e))
     (record { within = inside e; counted = omega arith; short = λ more. short e; loop_sound = λ more. sound-first })
     text_is
 
-pub first-part-spec : {M : Type 1} → statement M
-first-part-spec =
+pub first_part_spec : {M : Type 1} → statement M
+first_part_spec =
     tie.close
     (tie.spec
     put-sheet-requires
