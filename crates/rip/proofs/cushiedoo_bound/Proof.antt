@@ -8,11 +8,11 @@ use Rattle.rip.proofs.cushiedoo_bound.Tie as tie
 bound-requires : tie.Need-bound-requires
 bound-requires c κs = search rules
 
-flat-bounded-requires : tie.Need-flat-bounded-requires
+flat-bounded-requires : tie.Need-flat_bounded-requires
 flat-bounded-requires c κs = search rules
 
 returns : tie.Need-returns
-returns c = c.flat_bounded.ensures ∙ ap flat_bounded c.before.bound.ensures
+returns c = c.flat_bounded.ensures ∙ ap flat_bounded c.bound.ensures
 
-pub cushiedoo-bound-spec : {M : Type 1} → statement M
-cushiedoo-bound-spec = tie.close (tie.spec bound-requires flat-bounded-requires returns)
+pub cushiedoo_bound_spec : {M : Type 1} → statement M
+cushiedoo_bound_spec = tie.close (tie.spec bound-requires flat-bounded-requires returns)

@@ -5,18 +5,18 @@ use Rattle.rip.specs.Flat.{flat_reading}
 use Rattle.rip.proofs.cushiedoo_read_loop.Statement.{statement}
 use Rattle.rip.proofs.cushiedoo_read_loop.Tie as tie
 
-read-loop-requires : tie.Need-read-loop-requires
+read-loop-requires : tie.Need-read_loop-requires
 read-loop-requires c κs = search rules
 
-flat-reading-requires : tie.Need-flat-reading-requires
+flat-reading-requires : tie.Need-flat_reading-requires
 flat-reading-requires c κs = search rules
 
-same_length : tie.Need-same-length
+same_length : tie.Need-shape_of-values
 same_length c = search rules
 
 returns : tie.Need-returns
-returns c = (c.flat_reading.ensures ∙ ap flat_reading c.before.before.read_loop.ensures.0, c.before.before.read_loop.ensures.1)
+returns c = (c.flat_reading.ensures ∙ ap flat_reading c.read_loop.ensures.0, c.read_loop.ensures.1)
 
-pub cushiedoo-read-loop-spec : {M : Type 1} → statement M
-cushiedoo-read-loop-spec =
+pub cushiedoo_read_loop_spec : {M : Type 1} → statement M
+cushiedoo_read_loop_spec =
     tie.close (tie.spec read-loop-requires flat-reading-requires same_length returns)

@@ -8,15 +8,15 @@ use Rattle.rip.proofs.cushiedoo_sheet.Tie as tie
 sheet-requires : tie.Need-sheet-requires
 sheet-requires c κs = search rules
 
-flat-writing-requires : tie.Need-flat-writing-requires
+flat-writing-requires : tie.Need-flat_writing-requires
 flat-writing-requires c κs = search rules
 
-same_length : tie.Need-same-length
+same_length : tie.Need-shape_of-text
 same_length c = search rules
 
 returns : tie.Need-returns
-returns c = (c.flat_writing.ensures ∙ ap flat_writing c.before.before.before.sheet.ensures.0, c.before.before.before.sheet.ensures.1)
+returns c = (c.flat_writing.ensures ∙ ap flat_writing c.sheet.ensures.0, c.sheet.ensures.1)
 
-pub cushiedoo-sheet-spec : {M : Type 1} → statement M
-cushiedoo-sheet-spec =
+pub cushiedoo_sheet_spec : {M : Type 1} → statement M
+cushiedoo_sheet_spec =
     tie.close (tie.spec sheet-requires flat-writing-requires same_length returns)

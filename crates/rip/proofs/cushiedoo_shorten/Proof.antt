@@ -8,15 +8,15 @@ use Rattle.rip.proofs.cushiedoo_shorten.Tie as tie
 shorten-requires : tie.Need-shorten-requires
 shorten-requires c κs = search rules
 
-flat-writing-requires : tie.Need-flat-writing-requires
+flat-writing-requires : tie.Need-flat_writing-requires
 flat-writing-requires c κs = search rules
 
-same_length : tie.Need-same-length
+same_length : tie.Need-shape_of-room
 same_length c = search rules
 
 returns : tie.Need-returns
-returns c = (c.flat_writing.ensures ∙ ap flat_writing c.before.before.before.shorten.ensures.0, c.before.before.before.shorten.ensures.1)
+returns c = (c.flat_writing.ensures ∙ ap flat_writing c.shorten.ensures.0, c.shorten.ensures.1)
 
-pub cushiedoo-shorten-spec : {M : Type 1} → statement M
-cushiedoo-shorten-spec =
+pub cushiedoo_shorten_spec : {M : Type 1} → statement M
+cushiedoo_shorten_spec =
     tie.close (tie.spec shorten-requires flat-writing-requires same_length returns)

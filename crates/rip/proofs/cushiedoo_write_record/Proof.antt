@@ -5,18 +5,18 @@ use Rattle.rip.specs.Flat.{flat_writing}
 use Rattle.rip.proofs.cushiedoo_write_record.Statement.{statement}
 use Rattle.rip.proofs.cushiedoo_write_record.Tie as tie
 
-write-record-requires : tie.Need-write-record-requires
+write-record-requires : tie.Need-write_record-requires
 write-record-requires c κs = search rules
 
-flat-writing-requires : tie.Need-flat-writing-requires
+flat-writing-requires : tie.Need-flat_writing-requires
 flat-writing-requires c κs = search rules
 
-same_length : tie.Need-same-length
+same_length : tie.Need-shape_of-room
 same_length c = search rules
 
 returns : tie.Need-returns
-returns c = (c.flat_writing.ensures ∙ ap flat_writing c.before.before.before.write-record.ensures.0, c.before.before.before.write-record.ensures.1)
+returns c = (c.flat_writing.ensures ∙ ap flat_writing c.write_record.ensures.0, c.write_record.ensures.1)
 
-pub cushiedoo-write-record-spec : {M : Type 1} → statement M
-cushiedoo-write-record-spec =
+pub cushiedoo_write_record_spec : {M : Type 1} → statement M
+cushiedoo_write_record_spec =
     tie.close (tie.spec write-record-requires flat-writing-requires same_length returns)

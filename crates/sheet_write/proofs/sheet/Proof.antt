@@ -12,32 +12,32 @@ use Rattle.sheet_text.proofs.WorstCase.{never_longer}
 use Rattle.sheet_write.proofs.sheet.Statement.{statement}
 use Rattle.sheet_write.proofs.sheet.Tie as tie
 
-room-needed-requires : tie.Need-room-needed-requires
+room-needed-requires : tie.Need-room_needed-needed-requires
 room-needed-requires c κs = search rules
 
-returns : tie.Need-returns
+returns : tie.Need-returns-then-text-needed
 returns c =
-    let a = c.before.before.before.before.args in
-    let told = no_room a.input.now a.text.now (omega (arith, c.before.room-needed.ensures)) in
-    rw c.before.room-needed.ensures (sym told.0, sym told.1)
+    let a = c.args in
+    let told = no_room a.input.now a.text.now (omega (arith, c.room_needed-needed.ensures)) in
+    rw c.room_needed-needed.ensures (sym told.0, sym told.1)
 
-put-sheet-requires : tie.Need-put-sheet-requires
+put-sheet-requires : tie.Need-put_sheet-written-requires
 put-sheet-requires c κs =
     let n = c.before.before in
-    omega (arith, n.room-needed.ensures, never_longer n.before.before.before.args.input.now)
+    omega (arith, n.room_needed-needed.ensures, never_longer n.args.input.now)
 
-same_length : tie.Need-same-length
+same_length : tie.Need-shape_of-text
 same_length c = search rules
 
-returns-2 : tie.Need-returns-2
+returns-2 : tie.Need-returns
 returns-2 c =
     let n = c.before.before.before.before.before in
-    let a = n.before.before.before.args in
+    let a = n.args in
     let text = sheet_text a.input.now in
-    let told = enough a.input.now a.text.now (omega (arith, n.room-needed.ensures)) in
-    let put = c.before.before.put-sheet.ensures in
+    let told = enough a.input.now a.text.now (omega (arith, n.room_needed-needed.ensures)) in
+    let put = c.put_sheet-written.ensures in
     (ap (λ (k : ℕ). record { number = 0; place = 0; written = k }) (put.end_is ∙ zero-add (length text)) ∙ sym told.0, put.room_is ∙ written_front a.text.now text ∙ sym told.1)
 
-pub sheet-spec : {M : Type 1} → statement M
-sheet-spec =
+pub sheet_spec : {M : Type 1} → statement M
+sheet_spec =
     tie.close (tie.spec room-needed-requires returns put-sheet-requires same_length returns-2)
