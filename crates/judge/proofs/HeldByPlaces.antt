@@ -7,7 +7,7 @@ use native.Mathlib.Numerals.{add-one}
 use native.Mathlib.Omega.{arith}
 use lib.ListN.{replicate}
 use Rattle.endian.specs.Numbers.{little_at}
-use Rattle.record.specs.Fields.{width, widths, number, values}
+use Rattle.record.specs.Fields.{width, widths, number}
 use Rattle.record.specs.Readers.{Reader, kind, counts_read, fields, list_start, list}
 use Rattle.record.specs.Layouts.{loop, ranking, exclusion, lasso, is_loop, variable_count, row_count, scale, direction, counts, layout, ahead, listed, entry, right_side, multiplier, rows_of}
 use Rattle.judge_sums.specs.Lists.{multipliers_from, entries_from, rights_from}

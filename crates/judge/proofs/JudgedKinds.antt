@@ -1,12 +1,11 @@
 -- A certificate in judging: what the code's answer about its conditions means for the definition. Kinds that have a rank share one text.
-use mathlib.Core.Path.{◌≡◌, refl, sym, ap, ◌∙◌}
+use mathlib.Core.Path.{◌≡◌, sym, ap, ◌∙◌}
 use Prim.Native.Nat.{ℕ, ◌≤◌, ◌<◌}
-use mathlib.Core.Bool.{true, cond}
+use mathlib.Core.Bool.{true}
 use mathlib.Core.List.{List, ◌++◌}
 use lib.IntN.{ℤ, pos}
 use lib.ListN.{length, drop}
 use borrow.Author.Tests.{ne_eqb}
-use Rattle.endian.specs.Numbers.{little_at}
 use Rattle.record.specs.Layouts.{Kind, exclusion, has_rank, is_lasso}
 use Rattle.refusal.specs.Faults.{fault_of}
 use Rattle.refusal.specs.Tests.{Told, done, refused, first, number as number_told}
@@ -14,14 +13,12 @@ use Rattle.refusal.specs.declared.Fault.{Fault}
 use Rattle.refusal.proofs.FaultLaws.{fault_refused, fault_done}
 use Rattle.refusal.proofs.TestLaws.{never}
 use Rattle.theory.specs.Conditions.{exclusion_told}
-use Rattle.theory.specs.Lassos as Lassos
 use Rattle.theory.specs.Rankings as Rankings
 use Rattle.judge_conditions.specs.LoopHeld.{loop_held}
 use Rattle.judge_exclusion.specs.ExclusionHeld.{exclusion_held}
 use Rattle.judge_ranking.specs.RankedBy.{ranked_of, rank_put}
 use Rattle.judge_ranking.specs.declared.Ranked.{Ranked}
 use Rattle.verdict.specs.Claims.{ranking_claim, exclusion_claim, lasso_claim}
-use Rattle.verdict.specs.Contents.{loop_in, ranking_in, lasso_in}
 use Rattle.verdict.specs.Judging.{Judging, rank_room, judges, rank_after, judge_of, certificates_judged}
 use Rattle.verdict.specs.Outcomes.{grade_of}
 use Rattle.verdict.specs.Pairs.{Pair, pair_of, pair_kind, variables_of, claim, conditions}

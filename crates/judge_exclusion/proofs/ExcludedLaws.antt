@@ -5,7 +5,6 @@ use Prim.Native.Nat.{ℕ, ◌+◌, ◌*◌, ◌≤◌, ◌<◌}
 use mathlib.Core.Bool.{Bool, true, false}
 use mathlib.Core.List.{List, []}
 use lib.IntN.{ℤ, pos, ◌*ℤ◌}
-use lib.ListN.{length, get_or}
 use lib.Signed.{le_z}
 use mir.Syntax.{w64}
 use mir.Val.{of_z, to_z}
@@ -13,7 +12,6 @@ use mir.Facts.{to_z-of_z}
 use Rattle.refusal.specs.Tests.{Told, done, refused, ◌then◌}
 use Rattle.refusal.specs.Places.{Throughout, before_failing, told_each}
 use Rattle.refusal.proofs.PlaceLaws.{before_all, before_first, told_same, told_none, told_at, told_past}
-use Rattle.whole.specs.Rows.{Row}
 use Rattle.whole.proofs.Tables.{length_tabulate, tabulate_at}
 use Rattle.endian.specs.Numbers.{little_at}
 use Rattle.judge_sums.specs.Lists.{row_from, rows_from}

@@ -1,8 +1,8 @@
 -- What sound records of kinds 5 and 6 hold, by places: the paths and the argument of crate `verdict_paths` are the weighted rows that the code reads, so what
 -- it tells of a path by places it tells of the records.
-use mathlib.Core.Path.{◌≡◌, refl, sym, ap, ap₂, ◌∙◌}
+use mathlib.Core.Path.{◌≡◌, refl, sym, ap, ◌∙◌}
 use Prim.Native.Nat.{ℕ, ◌+◌, ◌*◌, ◌≤◌, ◌<◌}
-use mathlib.Core.Bool.{true, false, cond}
+use mathlib.Core.Bool.{cond}
 use mathlib.Core.List.{List, [], append-nil}
 use native.Mathlib.Nat.{mul-le-mul_right}
 use native.Mathlib.Omega.{arith}
@@ -14,7 +14,6 @@ use Rattle.endian.specs.Numbers.{little_at}
 use Rattle.refusal.specs.Places.{Throughout}
 use Rattle.refusal.specs.Tests.{Told, done, refused}
 use Rattle.refusal.proofs.TestLaws.{either}
-use Rattle.whole.specs.Rows.{Row}
 use Rattle.whole.specs.Sums.{tabulate}
 use Rattle.whole.proofs.Tables.{length_tabulate, tabulate_at}
 use Rattle.record.specs.Fields.{width, number}
@@ -25,16 +24,14 @@ use Rattle.record_paths.specs.PathLoops.{variables_in, paths_in, rows_in, rows_b
 use Rattle.record_paths.specs.PathCertificates.{Counted, counted, components_in, component_in, component_place, multipliers_before, all_multipliers, list_place}
 use Rattle.record_paths.proofs.PathSums.{sum_none, sum_next, sum_part}
 use Rattle.record_paths.proofs.PathsSound.{PathsSound, LexicographicSound}
-use Rattle.theory.specs.WeightedRows.{Weighted}
 use Rattle.theory_paths.specs.Paths.{Branches, rows_for}
-use Rattle.theory_paths.specs.Lexicographics.{Lexicographic, Component, PathPart, component_at, part_at, own, bounding, falling, not_rising}
+use Rattle.theory_paths.specs.Lexicographics.{Lexicographic, component_at, part_at, own, bounding, falling, not_rising}
 use Rattle.theory_paths.specs.PathConditions.{every, weighs, path_told, lexicographic_told}
 use Rattle.theory_paths.proofs.PathLaws.{every_same, path_51, path_52, path_53, path_done, paths_done, paths_refused}
 use Rattle.judge_sums.specs.Lists.{multipliers_from, rights_from, rows_from}
 use Rattle.judge_sums.specs.Places.{right_at}
 use Rattle.judge_held.proofs.HeldRuns.{rows_held}
 use Rattle.judge_held.proofs.NumbersHeld.{run_is, multipliers_are, start_is}
-use Rattle.verdict.specs.Contents.{rows_of_numbers}
 use Rattle.verdict_paths.specs.PathContents.{rows_at, path_in, branches_in, component_held, list_held, part_held, lexicographic_in}
 use Rattle.judge_paths.specs.PathByPlaces.{weighted_by, bounded_by, falling_by, staying_by, path_number, PathIn}
 

@@ -1,5 +1,5 @@
 -- What the tests of a ranking's conditions tell, and what is shown where all hold: start, fall, and the rank in the front of a list.
-use Rattle.std.specs.Prelude.{ℕ, ◌+◌, ◌<◌, ◌≡◌, Bool, true, cond, List, ◌++◌, eqb, ℤ, pos, neg_ℤ, ◌+ℤ◌, ◌-ℤ◌, length, get_or, drop}
+use Rattle.std.specs.Prelude.{ℕ, ◌+◌, ◌<◌, ◌≡◌, Bool, true, cond, List, ◌++◌, eqb, ℤ, pos, ◌+ℤ◌, ◌-ℤ◌, length, get_or, drop}
 use Rattle.std.specs.Int.Signed.{lt_z}
 use Rattle.refusal.specs.Tests.{Told, done, refused, ◌then◌}
 use Rattle.refusal.specs.Places.{Throughout, told_each, told_once}
@@ -7,7 +7,7 @@ use Rattle.theory.specs.Conditions.{ranking_told}
 use Rattle.theory.specs.Loops.{A, A', Loop}
 use Rattle.theory.specs.Rankings.{Ranking, rank, start, fall}
 use Rattle.whole.specs.Same.{same_z}
-use Rattle.whole.specs.Sums.{sum, tabulate}
+use Rattle.whole.specs.Sums.{sum}
 use Rattle.judge_ranking.specs.declared.Ranked.{Ranked}
 
 -- ---- out of lists of lifted totals: n over A and then n over A', under Y and under Z

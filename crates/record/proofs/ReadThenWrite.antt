@@ -12,7 +12,7 @@ use lib.Seq.{length-take-le, drop-drop}
 use borrow.Author.Tests.{le-leb, eq-eqb}
 use Rattle.endian.specs.Numbers.{Bytes, little, little_at, digits}
 use Rattle.endian.proofs.Laws.{bytes_take, bytes_drop, digits_little}
-use Rattle.refusal.specs.Tests.{done, first, number}
+use Rattle.refusal.specs.Tests.{done, first}
 use Rattle.refusal.proofs.TestLaws.{Passes, passes_done, both_true}
 use Rattle.record.specs.Fields.{Field, width, widths, values, bytes_of, in_range, number as held}
 use Rattle.record.specs.Layouts.{variable_count, row_count, Kind, loop, ranking, exclusion, lasso, other, kind_of, is_loop, is_lasso, counts, layout, length_of, ahead, listed}

@@ -15,7 +15,6 @@ use Rattle.record.specs.Fields.{width, widths, values, in_range, number as held}
 use Rattle.record.specs.Layouts.{variable_count, row_count, Kind, loop, ranking, exclusion, lasso, other, kind_of, is_loop, is_lasso, is_known, counts, length_of}
 use Rattle.record.specs.Readers as R
 use Rattle.record.specs.Readers.{Reader, sound, enough_room, reading}
-use Rattle.record.specs.Writers as W
 use Rattle.record.specs.Ranges.{variables, rows, within}
 use Rattle.record.proofs.CountLimits.{variables_most, rows_most, arguments_most}
 

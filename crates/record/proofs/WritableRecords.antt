@@ -2,7 +2,6 @@
 use mathlib.Core.Path.{◌≡◌}
 use Prim.Native.Nat.{◌+◌, ◌≤◌}
 use mathlib.Core.Bool.{true, not, ◌||◌}
-use mathlib.Core.List.{[]}
 use lib.Dec.{leb}
 use lib.IntN.{pos}
 use lib.ListN.{length}
@@ -11,7 +10,6 @@ use Rattle.refusal.proofs.TestLaws.{Passes, both_true}
 use Rattle.record.specs.Fields.{in_range}
 use Rattle.record.specs.Layouts.{is_lasso}
 use Rattle.record.specs.Ranges.{variables, rows, within}
-use Rattle.record.specs.Readers as R
 use Rattle.record.specs.Wants.{kinds_written}
 use Rattle.record.specs.Writers as W
 use Rattle.record.specs.Writers.{Writer, writing}

@@ -3,7 +3,7 @@
 -- kind's number, and no list of wanted kinds goes with it.
 use Rattle.std.specs.Prelude.{ℕ, zero, suc, ◌+◌, false, List, leb, eqb, ℤ, drop, replicate}
 use Rattle.refusal.specs.Tests.{Test, ◌at◌unless◌}
-use Rattle.record.specs.Fields.{u16, i32, width, number, holds, Field, values, in_range, before_fault}
+use Rattle.record.specs.Fields.{u16, i32, number, holds, Field, values, in_range, before_fault}
 use Rattle.record.specs.Ranges.{◌to◌, Range}
 use Rattle.record.specs.Readers.{Reader, stated_length, kind_number}
 

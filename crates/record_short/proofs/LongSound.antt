@@ -1,7 +1,7 @@
 -- What a sound record of kind 2 has, `LongSound`: every test of a reading that wants rankings alone passes exactly when it has this.
 use mathlib.Core.Path.{◌≡◌, refl}
 use Prim.Native.Nat.{ℕ, zero, suc, ◌+◌, ◌*◌, ◌-◌, ◌≤◌}
-use mathlib.Core.Bool.{true, false, false≢true}
+use mathlib.Core.Bool.{true, false≢true}
 use mathlib.Core.List.{List}
 use native.Mathlib.Decide.{dec_lt}
 use native.Mathlib.Omega.{arith}
@@ -14,7 +14,7 @@ use Rattle.refusal.specs.Tests.{done, first}
 use Rattle.refusal.proofs.TestLaws.{Passes, passes_done, both_true, true_both}
 use Rattle.record.specs.Fields.{widths, values, in_range}
 use Rattle.record.specs.Layouts.{multiplier, ranking, kind_of, is_loop, counts, layout, length_of, ahead, listed}
-use Rattle.record.specs.Ranges.{◌to◌, variables, rows, multipliers, within}
+use Rattle.record.specs.Ranges.{variables, rows, multipliers, within}
 use Rattle.record.specs.Readers as R
 use Rattle.record.specs.Readers.{sound}
 use Rattle.record.specs.Wants.{wants_of}

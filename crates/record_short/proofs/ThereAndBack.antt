@@ -8,7 +8,7 @@ use lib.ListN.{length, take, drop}
 use lib.Seq.{take-append_seam}
 use borrow.Author.Tests.{le-leb}
 use Rattle.endian.specs.Numbers.{Bytes}
-use Rattle.refusal.specs.Tests.{Told, done, refused, first, number}
+use Rattle.refusal.specs.Tests.{Told, done, refused, number}
 use Rattle.refusal.proofs.TestLaws.{done_passes, passes_done, passes_append, append_passes, zero_done}
 use Rattle.record.specs.declared.Writing.{Writing}
 use Rattle.record.specs.Readers.{sound}

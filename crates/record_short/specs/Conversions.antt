@@ -1,7 +1,7 @@
 -- 02, Q-6: "Old rankings are moved to kind 7 and back." What the two calls answer and what the room holds afterwards, on every byte
 -- string, pair of arguments and room: the refusals of a reading, kind 2 alone wanted for shortening and kind 7 for lengthening,
 -- then 7 with the bytes needed. The ranking need not be accepted.
-use Rattle.std.specs.Prelude.{ℕ, zero, suc, ◌+◌, ◌*◌, Bool, true, false, cond, not, ◌&&◌, List, [], ◌∷◌, ◌++◌, leb, eqb, length, drop}
+use Rattle.std.specs.Prelude.{ℕ, zero, suc, ◌+◌, ◌*◌, Bool, true, false, cond, ◌&&◌, List, [], ◌∷◌, ◌++◌, leb, eqb, length, drop}
 use Rattle.endian.specs.Numbers.{little_at, digits}
 use Rattle.refusal.specs.Tests.{Told, done, refused, Test, ◌at◌unless◌, first}
 use Rattle.record.specs.declared.Writing.{Writing}

@@ -14,7 +14,6 @@ use Rattle.refusal.proofs.PlaceLaws.{before_all, before_first}
 use Rattle.refusal.proofs.TestLaws.{true_both}
 use Rattle.record.specs.Fields.{width, number, widths}
 use Rattle.record.specs.Layouts.{multiplier}
-use Rattle.record.specs.Ranges.{◌to◌}
 use Rattle.record_fields.specs.Runs.{field_number_at, fits, fault}
 use Rattle.record_fields.proofs.FirstFaults.{fault_none, fault_next, stops, goes_on}
 use Rattle.record_short.specs.ShortRecords.{row_in, row_rises, has_weight, row_number, triples_fields}

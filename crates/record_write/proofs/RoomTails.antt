@@ -1,7 +1,7 @@
 -- A part of a room that was lent from a place on.
 use mathlib.Core.Path.{◌≡◌, sym}
 use Prim.Native.Nat.{ℕ, ◌+◌, ◌-◌, ◌≤◌}
-use mathlib.Core.List.{List, [], append_assoc, append-nil}
+use mathlib.Core.List.{List, append_assoc, append-nil}
 use native.Mathlib.Omega.{arith}
 use lib.ListN.{length, take, drop, length-drop, drop_of_length-le}
 use lib.Seq.{sets, sets-eq, take_all, drop-drop}

@@ -1,5 +1,5 @@
 -- When a record can be written out, and what a refusal answers.
-use Rattle.std.specs.Prelude.{ℕ, ◌+◌, ◌≤◌, ◌<◌, ◌≡◌, true, List, [], ℤ, length}
+use Rattle.std.specs.Prelude.{ℕ, ◌+◌, ◌≤◌, ◌<◌, ◌≡◌, true, List, ℤ, length}
 use Rattle.record.specs.declared.Writing.{Writing}
 use Rattle.record.specs.Layouts.{kind_of, is_known, Counts, length_of}
 use Rattle.record_fill.specs.Bodies.{Fitting}

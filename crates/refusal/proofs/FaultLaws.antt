@@ -3,7 +3,7 @@ use mathlib.Core.Path.{◌≡◌, refl, sym, ap, ◌∙◌}
 use Prim.Native.Nat.{ℕ}
 use mathlib.Core.Bool.{Bool, true, false}
 use Rattle.refusal.specs.Tests.{Told, done, refused, ◌then◌, number, place}
-use Rattle.refusal.specs.Places.{told_each, told_once, before_failing}
+use Rattle.refusal.specs.Places.{told_each, told_once}
 use Rattle.refusal.specs.Faults.{fault_of}
 use Rattle.refusal.specs.declared.Fault.{Fault}
 use Rattle.refusal.proofs.PlaceLaws.{all-or-first, told_none, told_there}

@@ -1,7 +1,7 @@
 -- What a judge answers of a sound loop and a certificate of at most 65,536 bytes is small: the number and place of a refusal, and the numbers of an accepted rank.
 -- A short ranking's answer is that of the record that it stands for, which has 262 bytes at most, or the refusal of its own bytes. Assumes nothing.
 use mathlib.Core.Path.{◌≡◌, refl, sym, ap, ◌∙◌}
-use Prim.Native.Nat.{ℕ, ◌+◌, ◌*◌, ◌≤◌, ◌<◌}
+use Prim.Native.Nat.{ℕ, ◌≤◌}
 use mathlib.Core.Bool.{true, false≢true}
 use mathlib.Core.List.{List, [], ◌∷◌, ◌++◌}
 use native.Mathlib.Omega.{arith}
@@ -25,7 +25,6 @@ use Rattle.verdict.specs.Contents.{loop_in}
 use Rattle.verdict.specs.Judging.{Judging, rank_room, judging, judges, rank_after, judge_of, certificates_judged}
 use Rattle.verdict.specs.Pairs.{loop_record, certificate_record, pair_kind, variables_of, conditions}
 use Rattle.verdict.specs.Stages.{Said, agreed, refusal, Stage, ◌says◌, said, verdict_of}
-use Rattle.verdict.specs.declared.Outcome.TheVariants.{Ranking}
 use Rattle.verdict.specs.declared.Verdict.{Verdict}
 use Rattle.verdict.proofs.Accepted.{accepts_agrees, ranking_answers, lasso_answers, exclusion_answers}
 use Rattle.verdict.proofs.ConditionLaws.{told_exactly_conditions, condition_told}

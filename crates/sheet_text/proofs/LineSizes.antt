@@ -8,7 +8,6 @@ use lib.ListN.{length, length-append}
 use Rattle.whole.specs.Sums.{Within}
 use Rattle.decimal.specs.Decimals.{decimal, signed_decimal}
 use Rattle.decimal.proofs.DecimalLaws.{decimal_length, signed_length}
-use Rattle.refusal.specs.Tests.{refused}
 use Rattle.verdict.specs.Magnitudes.{column_most, right_sum_most}
 use Rattle.verdict.specs.declared.Grade.TheVariants.{Whole, Fractions}
 use Rattle.verdict.specs.declared.Outcome.{Outcome}

@@ -1,23 +1,22 @@
 -- What the tests of each kind tell, condition after condition: the shape in which code asks them. And none of them tells 0.
 use Prim.Native.Nat.{ℕ}
-use mathlib.Core.Path.{◌≡◌, ap, ap₂, ◌∙◌}
-use mathlib.Core.List.{List, [], ◌∷◌, ◌++◌}
+use mathlib.Core.Path.{◌≡◌}
 use native.Mathlib.Omega.{arith}
-use lib.IntN.{ℤ, pos, ◌+ℤ◌, ◌*ℤ◌}
+use lib.IntN.{pos, ◌+ℤ◌, ◌*ℤ◌}
 use lib.ListN.{length}
 use lib.Signed.{le_z, lt_z}
-use Rattle.refusal.specs.Tests.{Told, first, ◌then◌, ◌at◌unless◌}
+use Rattle.refusal.specs.Tests.{◌then◌}
 use Rattle.refusal.specs.Places.{told_each, told_once}
 use Rattle.refusal.proofs.PlaceLaws.{first_append, first_once}
 use Rattle.refusal.proofs.FaultLaws.{Named, named_then, named_each, named_once}
 use Rattle.whole.specs.Same.{same_z}
 use Rattle.whole.specs.Sums.{dot, sum, less}
-use Rattle.theory.specs.Loops.{Row, A, A', b, Loop}
+use Rattle.theory.specs.Loops.{A, A', b, Loop}
 use Rattle.theory.specs.Rankings.{Ranking}
 use Rattle.theory.specs.Exclusions.{Exclusion}
 use Rattle.theory.specs.Lassos.{Lasso, longer, starting, keeping}
 use Rattle.theory.specs.WeightedRows.{Weighted, sum_of, times_v}
-use Rattle.theory.specs.Conditions.{Proposal, ranking_tests, exclusion_tests, weighed_tests, lasso_tests, ◌at_each◌unless◌, of, started, kept, ranked, row_at, ranking_told, exclusion_told, weighed_told, lasso_told}
+use Rattle.theory.specs.Conditions.{Proposal, ranking_tests, exclusion_tests, weighed_tests, lasso_tests, row_at, ranking_told, exclusion_told, weighed_told, lasso_told}
 use Rattle.theory.proofs.Orders.{first_each, first_of}
 
 pub ranking_in_order : (loop : Loop) (c : Ranking)

@@ -1,5 +1,5 @@
 -- A lasso's start and kept, in 01's words and as weighted rows: the same column by column, and at the right sides.
-use Prim.Native.Nat.{ℕ, ◌<◌}
+use Prim.Native.Nat.{ℕ}
 use mathlib.Core.Path.{◌≡◌, sym, ◌∙◌}
 use mathlib.Core.Logic.{◌↔◌}
 use native.Mathlib.Omega.{arith}
@@ -12,7 +12,7 @@ use Rattle.whole.proofs.Ring.{neg-*ℤ}
 use Rattle.theory.specs.Loops.{A, A', b, Loop}
 use Rattle.theory.specs.Lassos.{Lasso, LassoHolds, starting, keeping}
 use Rattle.theory.specs.WeightedRows.{Weighs, sum_of, times_v}
-use Rattle.theory.specs.Fails.{TBNone, TB'Carries, HACarries, HA'Carries, HbWithin, Starts, Keeps}
+use Rattle.theory.specs.Fails.{TBNone, TB'Carries, HACarries, HA'Carries, HbWithin}
 use Rattle.theory.proofs.RankingTheorems.{no_difference}
 
 module _ (loop : Loop) (c : Lasso) where

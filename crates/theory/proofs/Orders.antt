@@ -1,7 +1,7 @@
 -- What an order of tests decides. `Decides tests i P F` says of what came in, i: all tests hold exactly when P does, and number k at place p
 -- is told exactly when F k p holds. The lemmas put it together as the lists of tests are.
 use Prim.Native.Nat.{ℕ, zero, suc, ◌<◌}
-use mathlib.Core.Path.{◌≡◌, refl, sym, ap, ◌∙◌, subst}
+use mathlib.Core.Path.{◌≡◌, refl, sym, ◌∙◌, subst}
 use mathlib.Core.Logic.{◌↔◌, ◌⊎◌, inl, inr}
 use mathlib.Core.Bool.{Bool, true, false, false≢true}
 use mathlib.Core.List.{List, [], ◌∷◌, ◌++◌}

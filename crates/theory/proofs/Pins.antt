@@ -1,6 +1,6 @@
 -- Definitions that the theorems use only before an arrow or under a negation are pinned here: something is in each of them, and something is not. A
 -- set of steps, runs or ranking functions that is made smaller (or larger) than 01 says then no longer passes, though every theorem about it still might.
-use Prim.Native.Nat.{ℕ, zero, suc, ◌≤◌}
+use Prim.Native.Nat.{ℕ, suc, ◌≤◌}
 use mathlib.Core.Bool.{true, false}
 use mathlib.Core.Path.{◌≡◌, refl}
 use mathlib.Core.List.{List, [], ◌∷◌}
@@ -8,15 +8,15 @@ use native.Mathlib.Omega.{arith}
 use lib.IntN.{ℤ, pos, negsuc, ◌+ℤ◌, ◌-ℤ◌, ◌*ℤ◌}
 use lib.ListN.{length}
 use lib.Signed.{◌≤ℤ◌, le_z_yes}
-use Rattle.whole.specs.Sums.{dot, sum, less, add, scale, Each}
-use Rattle.whole.proofs.Solve.{v, ◌⊕◌, ◌⊝◌, ◌⊗◌, solve_le, eq_fact, le_fact}
+use Rattle.whole.specs.Sums.{dot, less, add, scale, Each}
+use Rattle.whole.proofs.Solve.{v, ◌⊕◌, ◌⊝◌, ◌⊗◌, solve_le, le_fact}
 use Rattle.theory.specs.Loops.{Loop, over, Step, Run, Endless}
 use Rattle.theory.specs.Rankings.{NonNegative, Ranks, RanksWhole, RanksFractions}
 use Rattle.theory.specs.Exclusions.{OfSize, ExclusionHolds, divides, all_divided, step_is_whole}
 use Rattle.theory.specs.Lassos.{stem_of, Invariant, NonNegativeLasso}
-use Rattle.theory.specs.Samples.{row, ranking, P, S1, S7-loop, S7, S9-loop, S9, half_steps, half_step, never_below, odd_U, S10-loop, S10, S14-loop, S14, upward}
+use Rattle.theory.specs.Samples.{row, P, S1, S7-loop, S7, S9-loop, S9, half_steps, half_step, never_below, odd_U, S10-loop, S10, S14-loop, upward}
 use Rattle.theory.specs.Table.{computing}
-use Rattle.theory.specs.Weights.{PutIn, none, old, new}
+use Rattle.theory.specs.Weights.{PutIn, none, new}
 use Rattle.theory.proofs.Decisions.{lasso_decided}
 use Rattle.theory.proofs.ExclusionTheorems.{exclusion_excludes}
 use Rattle.theory.proofs.LassoTheorems.{lasso_bounds_runs}

@@ -10,10 +10,10 @@ use lib.Signed.{◌≤ℤ◌}
 use Rattle.whole.specs.Sums.{dot, sum, tabulate, Each, NonNeg}
 use Rattle.whole.proofs.SumLaws.{sum_mono, sum_add, sum_scale}
 use Rattle.whole.proofs.Tables.{exchange, dot_columns}
-use Rattle.whole.proofs.Solve.{v, ◌⊕◌, ◌⊗◌, solve_le, eq_fact, le_fact}
+use Rattle.whole.proofs.Solve.{v, ◌⊕◌, solve_le, eq_fact, le_fact}
 use Rattle.whole.proofs.Ring.{pos_mono, mul_mono}
 use Rattle.theory.specs.Loops.{Row, A, A', b, Loop, over, Step}
-use Rattle.theory.specs.WeightedRows.{Weighted, sum_of, Weighs}
+use Rattle.theory.specs.WeightedRows.{Weighted, Weighs}
 
 -- the sums over the rows, one for each column
 abbrev pub columns : Loop → List ℤ → (ℕ → Row → ℤ) → List ℤ

@@ -1,6 +1,6 @@
 -- What a refusal by a condition says of the loop and the certificate (02, Q-1): which condition fails, at which column or row it fails
 -- first, and that all before it hold. `told-exactly-..` in proofs/Decisions.antt says that this and nothing else is told.
-use Rattle.std.specs.Prelude.{ℕ, ◌≡◌, List, [], ℤ, pos, neg_ℤ, ◌+ℤ◌, ◌-ℤ◌, ◌*ℤ◌, length, get_or, ◌≤ℤ◌, ◌<ℤ◌}
+use Rattle.std.specs.Prelude.{ℕ, ◌≡◌, [], pos, neg_ℤ, ◌+ℤ◌, ◌-ℤ◌, ◌*ℤ◌, length, get_or, ◌≤ℤ◌, ◌<ℤ◌}
 use Rattle.refusal.specs.Places.{Throughout, FirstFailing}
 use Rattle.whole.specs.Sums.{sum, less}
 use Rattle.theory.specs.Loops.{Row, A, A', b, Loop, Meets}

@@ -2,7 +2,7 @@
 -- certificates and states within the limits, is below 2^63 in absolute value; so are a lasso's, over the loop with the added row. Those of an exclusion and
 -- of a lasso's start and kept have files of their own.
 use mathlib.Core.Path.{◌≡◌}
-use Prim.Native.Nat.{ℕ, zero, suc, ◌*◌, ◌≤◌}
+use Prim.Native.Nat.{ℕ, zero, suc, ◌≤◌}
 use mathlib.Core.List.{List}
 use native.Mathlib.Omega.{arith}
 use lib.IntN.{ℤ, neg_ℤ, nat_abs, ◌+ℤ◌, ◌-ℤ◌}

@@ -1,9 +1,9 @@
 -- A refusal of a sample, read as mathematics: of P's second certificate judging and bound tell 22 in column 1, so YA' = 0 throughout, and (Y - Z)A is 0 in
 -- column 0 and is not in column 1; and where that is so, this is told. So the statements of `ToldExactly` speak of the calls' own bytes.
 use mathlib.Core.Path.{◌≡◌, refl}
-use mathlib.Core.List.{List, [], ◌∷◌}
+use mathlib.Core.List.{[], ◌∷◌}
 use native.Mathlib.Omega.{arith}
-use lib.IntN.{ℤ, pos}
+use lib.IntN.{pos}
 use Rattle.record.specs.Contents.{ranking_values}
 use Rattle.record.specs.Samples as Records
 use Rattle.theory.specs.Fails.{RankingFails}

@@ -1,20 +1,19 @@
 -- What a batch promises of every input. It is judged exactly when the loop is sound, there are no more than 32 records, and there is room for all their verdicts and
 -- ranks. Then verdict i is that of judging record i with stretch i, stretch i is what that judging leaves of it, and all that is past the last stays. A refusal
 -- changes nothing.
-use mathlib.Core.Path.{◌≡◌, refl, sym, ap, ◌∙◌}
+use mathlib.Core.Path.{◌≡◌, refl, ap, ◌∙◌}
 use mathlib.Core.Logic.{◌↔◌}
-use Prim.Native.Nat.{ℕ, ◌+◌, ◌*◌, ◌≤◌, ◌<◌}
+use Prim.Native.Nat.{ℕ, ◌*◌, ◌≤◌, ◌<◌}
 use mathlib.Core.List.{List, [], ◌++◌}
 use native.Mathlib.Omega.{arith}
 use lib.IntN.{ℤ}
 use lib.ListN.{length, get_or, drop, get_or-append}
-use lib.Seq.{get_or-drop, drop_at}
+use lib.Seq.{drop_at}
 use borrow.Author.Tests.{le-leb, leb-true}
 use Rattle.record_parting.specs.Parting.{records}
-use Rattle.refusal.specs.Tests.{done, first}
-use Rattle.refusal.proofs.FaultLaws.{Named}
-use Rattle.refusal.proofs.TestLaws.{Passes, done_passes, passes_done, zero_done}
-use Rattle.verdict.specs.Stages.{Said, agreed, refusal, said}
+use Rattle.refusal.specs.Tests.{done}
+use Rattle.refusal.proofs.TestLaws.{done_passes, passes_done}
+use Rattle.verdict.specs.Stages.{agreed, refusal, said}
 use Rattle.verdict.specs.declared.Verdict.{Verdict}
 use Rattle.verdict.proofs.StageLaws.{said_agrees, agrees_said}
 use Rattle.verdict_short.specs.Answers.{answered, rank_answered}

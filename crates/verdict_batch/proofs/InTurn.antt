@@ -6,7 +6,7 @@ use mathlib.Core.List.{List, [], ◌∷◌, ◌++◌, append_assoc}
 use native.Mathlib.Omega.{arith}
 use lib.IntN.{ℤ}
 use lib.ListN.{length, get_or, take, drop, length-append, length-take, length-drop}
-use lib.Seq.{length-take-le, take_at, drop_at, drop-drop, take-append-add, drop-append-add}
+use lib.Seq.{length-take-le, take_at, drop-drop, take-append-add, drop-append-add}
 use Rattle.verdict.specs.declared.Verdict.{Verdict}
 use Rattle.verdict_short.specs.Answers.{answered, rank_answered}
 use Rattle.verdict_batch.specs.Batches.{variables, verdicts_in_turn, ranks_in_turn, stretch, with_stretch}

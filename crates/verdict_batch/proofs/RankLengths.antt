@@ -1,22 +1,21 @@
 -- Judging leaves a rank list as long as it was, whatever the records' kinds.
-use mathlib.Core.Path.{◌≡◌, refl, sym, ap, ◌∙◌}
+use mathlib.Core.Path.{◌≡◌, refl, ◌∙◌}
 use Prim.Native.Nat.{ℕ, ◌≤◌}
-use mathlib.Core.Bool.{Bool, true, false, not, ◌||◌}
-use mathlib.Core.List.{List, []}
+use mathlib.Core.Bool.{true, not, ◌||◌}
+use mathlib.Core.List.{List}
 use native.Mathlib.Omega.{arith}
 use lib.Dec.{leb}
 use lib.IntN.{ℤ}
-use lib.ListN.{length, drop, length-append, length-drop}
+use lib.ListN.{length, length-append, length-drop}
 use borrow.Author.Tests.{leb-true}
 use Rattle.record.specs.Layouts.{Kind, loop, ranking, exclusion, lasso, other, has_rank}
-use Rattle.record.specs.Readers.{counts_read}
 use Rattle.refusal.proofs.TestLaws.{either, done_passes}
 use Rattle.theory.specs.Lassos as Lassos
 use Rattle.theory_settling.specs.Settlings.{longer}
 use Rattle.verdict.specs.Claims.{ranking_claim, exclusion_claim, lasso_claim, no_claim}
 use Rattle.verdict.specs.Contents.{loop_in, lasso_in, ranking_in}
 use Rattle.verdict.specs.Judging.{Judging, rank_room, judging, ranks, rank_after, judge_of}
-use Rattle.verdict.specs.Pairs.{Pair, pair_kind, variables_of, claim, rank_of, loop_record}
+use Rattle.verdict.specs.Pairs.{Pair, pair_kind, variables_of, claim, rank_of}
 use Rattle.verdict.specs.Stages.{Said, agreed, refusal, said}
 use Rattle.verdict.proofs.StageLaws.{said_agrees}
 use Rattle.verdict.proofs.SumsFit.{rank_length}

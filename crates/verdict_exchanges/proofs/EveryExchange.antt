@@ -1,15 +1,13 @@
 -- Every line of the table of exchanges holds: each exchanged record has the answer that stands beside it (`every-..-exchange`), and none is the answer of the
 -- record itself (`no_exchange_unseen`).
 use mathlib.Core.Path.{◌≡◌, refl}
-use Prim.Native.Nat.{ℕ}
 use mathlib.Core.Bool.{false}
-use mathlib.Core.List.{List, [], ◌∷◌, map}
-use lib.IntN.{ℤ, pos}
+use mathlib.Core.List.{map}
 use Rattle.record.specs.Contents.{rows_values, row_values}
 use Rattle.record.specs.Samples as Records
 use Rattle.verdict.specs.Computing.{computing}
 use Rattle.verdict.specs.Samples.{loop_bytes, unlike_loop, unlike_ranking, excluded_loop, unlike_exclusion, lasso_loop, unlike_lasso}
-use Rattle.verdict_exchanges.specs.Exchanges.{Line, exchanged, exchange_of, answer_of, judged, alike, told_in}
+use Rattle.verdict_exchanges.specs.Exchanges.{exchanged, exchange_of, answer_of, judged, alike, told_in}
 use Rattle.verdict_exchanges.specs.Exchanged.{loop_exchanges, ranking_exchanges, exclusion_exchanges, lasso_exchanges}
 
 -- the loop's fields

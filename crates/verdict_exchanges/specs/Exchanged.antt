@@ -1,7 +1,7 @@
 -- The table of exchanges: for each kind a record in which no two numbers of one form are alike, and the answer of judging for every
 -- exchange of two fields of one form, and of two lists of one form and length, rows among them. `tests/exchanges.py` works the
 -- lines out from 01 alone and says whether one is left out.
-use Rattle.std.specs.Prelude.{List, [], ◌∷◌, ℤ, pos}
+use Rattle.std.specs.Prelude.{List, [], ◌∷◌, pos}
 use Rattle.verdict.specs.Samples.{−}
 use Rattle.verdict.specs.declared.Outcome.TheVariants.{Ranking}
 use Rattle.verdict_exchanges.specs.Exchanges.{Line, ◌bytes-at◌and◌refused◌at◌of◌, ◌bytes-at◌and◌show◌}

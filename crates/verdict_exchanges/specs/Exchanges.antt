@@ -1,6 +1,6 @@
 -- What judging answers when two numbers of a record, or two lists of one length, stand in each other's place. No definition of a
 -- layout is used here: an exchange is of bytes at places.
-use Rattle.std.specs.Prelude.{ℕ, ◌+◌, ◌-◌, Bool, false, ◌&&◌, ◌||◌, List, [], ◌∷◌, ◌++◌, eqb, ℤ, pos, take, drop, replicate}
+use Rattle.std.specs.Prelude.{ℕ, ◌+◌, ◌-◌, Bool, false, ◌&&◌, ◌||◌, List, [], ◌∷◌, ◌++◌, eqb, pos, take, drop, replicate}
 use Rattle.whole.specs.Same.{same_z}
 use Rattle.verdict.specs.Judging.{judges, judge_of}
 use Rattle.verdict.specs.Outcomes.{numbers}

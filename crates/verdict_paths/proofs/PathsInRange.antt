@@ -10,7 +10,6 @@ use lib.ListN.{length, replicate}
 use lib.Signed.{◌≤ℤ◌}
 use borrow.Author.Tests.{le-leb}
 use Rattle.refusal.specs.Places.{Throughout}
-use Rattle.refusal.specs.Tests.{first}
 use Rattle.refusal.proofs.TestLaws.{true_both}
 use Rattle.record.specs.Contents.{In, ListIn, RowsIn}
 use Rattle.record.specs.Fields.{width}

@@ -1,7 +1,7 @@
 -- 02, Q-8: what judging and the bound call answer of a certificate of kind 8, on every pair of byte strings, every list and every state.
 -- "Judging fills the rank list; the bound call tells that count". The order is that of 01: loop, certificate, then 7 in judging, 10 and 9
 -- in a bound call, then the conditions; 11 is never told.
-use Rattle.std.specs.Prelude.{ℕ, List, [], ◌∷◌, leb, ℤ, length}
+use Rattle.std.specs.Prelude.{ℕ, List, [], ◌∷◌, leb, ℤ}
 use Rattle.record.specs.Readers.{counts_read, sound}
 use Rattle.record_paths.specs.PathFields.{bytes_alone}
 use Rattle.record_settling.specs.SettlingRecords.{sound_settling}

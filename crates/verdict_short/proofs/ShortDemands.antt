@@ -20,7 +20,7 @@ use Rattle.record_paths.specs.PathFields.{bytes_alone}
 use Rattle.record_paths.specs.PathLoops.{sound_paths}
 use Rattle.record_paths.proofs.PathsSound.{paths_sound}
 use Rattle.theory.specs.Loops.{Run, Endless}
-use Rattle.theory.specs.Rankings.{RankingHolds, NonNegative, Bounds, rank, start, fall, bound}
+use Rattle.theory.specs.Rankings.{RankingHolds, NonNegative, Bounds, rank, start, fall}
 use Rattle.theory.proofs.RankingTheorems.{ranking_bounds_runs}
 use Rattle.verdict.specs.Contents.{loop_in}
 use Rattle.verdict.specs.Judging.{judge_of}

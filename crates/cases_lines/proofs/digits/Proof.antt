@@ -1,6 +1,5 @@
 -- `cases_lines::digits` meets its contract. Assumes nothing.
 use Prim.Native.Nat.{◌-◌, ◌≤◌}
-use mathlib.Core.Path.{◌≡◌}
 use lib.ListN.{length}
 use borrow.Author.Rules.{rules}
 use Rattle.cases_lines.proofs.digits.Statement.{statement}

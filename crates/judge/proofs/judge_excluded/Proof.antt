@@ -1,6 +1,5 @@
 -- `judge::judge_excluded` meets its contract: each return is one way through judging. Assumes nothing.
 use mathlib.Core.Path.{◌∙◌}
-use native.Mathlib.Omega.{arith}
 use Rattle.verdict.specs.Judging.{certificates_judged}
 use Rattle.judge.proofs.JudgedKinds.{exclusion_refused, exclusion_accepted}
 use Rattle.judge.proofs.SoundContents.{q_positive}

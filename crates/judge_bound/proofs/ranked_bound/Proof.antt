@@ -4,7 +4,7 @@ use mir.Facts.{to_z-of_z}
 use mir.Syntax.{w64}
 use mir.Val.{of_z, to_z}
 use borrow.Author.Rules.{rules}
-use borrow.Author.Tests.{eq-eqb, ne_eqb, not-true, not-false}
+use borrow.Author.Tests.{eq-eqb, ne_eqb}
 use Rattle.judge_bound.specs.BoundShown.{bound_shown}
 use Rattle.judge_bound.proofs.ranked_bound.Statement.{statement}
 use Rattle.judge_bound.proofs.ranked_bound.Tie as tie

@@ -1,8 +1,6 @@
 -- `judge_conditions::remember` meets its contract. Assumes nothing.
-use mathlib.Core.Path.{sym, ap, ◌∙◌}
+use mathlib.Core.Path.{sym, ◌∙◌}
 use borrow.Author.Rules.{rules}
-use borrow.Author.Tests.{not-true, not-false}
-use Rattle.refusal.specs.Places.{before_failing}
 use Rattle.refusal.proofs.PlaceLaws.{before_grows, before_fails, before_failed}
 use Rattle.judge_conditions.proofs.remember.Statement.{statement}
 use Rattle.judge_conditions.proofs.remember.Tie as tie

@@ -7,7 +7,6 @@ use mir.Syntax.{w64}
 use mir.Val.{of_z, to_z}
 use borrow.Author.Count.{below_more}
 use borrow.Author.Rules.{rules}
-use borrow.Author.Tests.{not-true, not-false}
 use Rattle.refusal.specs.Places.{Throughout}
 use Rattle.whole.proofs.Size.{back}
 use Rattle.theory.specs.Exclusions.{divides}

@@ -1,7 +1,6 @@
 -- `judge_grade::whole_step` meets its contract: W is asked, and then V. Assumes nothing.
 use mathlib.Core.Path.{sym, ◌∙◌}
 use borrow.Author.Rules.{rules}
-use borrow.Author.Tests.{not-true, not-false}
 use Rattle.judge_grade.proofs.DividedLaws.{whole_by_one, not_whole, whole_by_V}
 use Rattle.judge_grade.proofs.whole_step.Statement.{statement}
 use Rattle.judge_grade.proofs.whole_step.Tie as tie

@@ -1,6 +1,5 @@
 -- `judge_lasso::starts` meets its contract: the parts stand where `lasso_held` has them. Assumes nothing.
 use native.Mathlib.Omega.{arith}
-use Rattle.judge_lasso.specs.LassoHeld.{lasso_held}
 use Rattle.judge_lasso.proofs.LassoLaws.{s_small, stem_in, start_as}
 use borrow.Author.Rules.{rules}
 use Rattle.judge_lasso.proofs.starts.Statement.{statement}

@@ -1,6 +1,6 @@
 -- `judge_paths::column_holds` meets its contract: each total is the lifted one less the lift. Assumes nothing.
 use Prim.Native.Nat.{◌+◌}
-use mathlib.Core.Path.{◌≡◌, sym, ap, ap₂, ◌∙◌}
+use mathlib.Core.Path.{ap, ap₂, ◌∙◌}
 use mathlib.Core.Bool.{◌&&◌}
 use native.Mathlib.Omega.{arith}
 use lib.IntN.{pos, neg_ℤ, ◌*ℤ◌}

@@ -8,8 +8,6 @@ use mir.Val.{to_z, of_z}
 use mir.Facts.{to_z-of_z}
 use borrow.Author.Count.{below_more}
 use borrow.Author.Rules.{rules}
-use borrow.Author.Tests.{not-true, not-false}
-use Rattle.theory_paths.specs.PathConditions.{every}
 use Rattle.theory_paths.proofs.PathLaws.{every_holds, every_fails}
 use Rattle.judge_paths.specs.PathByPlaces.{column_held}
 use Rattle.judge_paths.proofs.columns_hold.Statement.{statement}

@@ -4,7 +4,6 @@ use mathlib.Core.Path.{◌≡◌, sym, ◌∙◌}
 use mathlib.Core.Bool.{true}
 use native.Mathlib.Omega.{arith}
 use borrow.Author.Rules.{rules}
-use borrow.Author.Tests.{not-true, not-false}
 use Rattle.theory_paths.specs.PathConditions.{weighs}
 use Rattle.theory_paths.proofs.PathLaws.{every_holds}
 use Rattle.judge_paths.proofs.Pairs.{two_more, two_fail, last_decides}

@@ -1,23 +1,19 @@
 -- `judge_paths::paths_fault` meets its contract: before path j the paths so far hold, and its rows and lists start at `row` and `place`. Assumes nothing.
 use Prim.Native.Nat.{ℕ, ◌+◌, ◌*◌, ◌-◌, ◌≤◌, ◌<◌}
-use mathlib.Core.Path.{◌≡◌, refl, sym, ap, ◌∙◌}
+use mathlib.Core.Path.{◌≡◌, sym, ap, ◌∙◌}
 use native.Mathlib.Nat.{mul-le-mul}
 use native.Mathlib.Omega.{arith}
 use lib.ListN.{length}
 use borrow.Author.Count.{below_more}
 use borrow.Author.Rules.{rules}
-use Rattle.endian.specs.Numbers.{little_at}
 use Rattle.refusal.specs.Faults.{fault_of}
 use Rattle.refusal.specs.Tests.{done, refused, number, place}
-use Rattle.whole.proofs.Tables.{length_tabulate}
 use Rattle.record_paths.specs.PathCertificates.{counted, components_in, component_in, component_place, multipliers_before}
 use Rattle.record_paths.specs.PathLoops.{variables_in, paths_in, rows_in, rows_place}
 use Rattle.record_paths.proofs.PathsSound.{PathsSound, paths_sound, LexicographicSound, lexicographic_sound}
 use Rattle.theory_paths.specs.PathConditions.{path_told}
-use Rattle.theory_paths.proofs.PathLaws.{paths_done, paths_refused}
-use Rattle.verdict_paths.specs.PathContents.{path_in, branches_in, lexicographic_in}
-use Rattle.judge_paths.specs.PathByPlaces.{path_number, PathIn}
-use Rattle.judge_paths.proofs.PathsHeld.{rows_first, rows_next, lists_first, lists_next, lists_after, first_place, first_list, next_rows, next_lists, PathRead, path_read, all_hold, one_fails}
+use Rattle.verdict_paths.specs.PathContents.{branches_in, lexicographic_in}
+use Rattle.judge_paths.proofs.PathsHeld.{rows_first, lists_after, first_place, first_list, next_rows, next_lists, PathRead, path_read, all_hold, one_fails}
 use Rattle.judge_paths.proofs.paths_fault.Statement.{statement}
 use Rattle.judge_paths.proofs.paths_fault.Tie as tie
 

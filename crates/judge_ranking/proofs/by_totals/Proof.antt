@@ -1,10 +1,7 @@
 -- `judge_ranking::by_totals` meets its contract. Assumes nothing.
-use Prim.Native.Nat.{◌≤◌}
-use mathlib.Core.Path.{◌≡◌, sym}
-use mathlib.Core.Bool.{true, false}
+use mathlib.Core.Path.{◌≡◌}
 use mathlib.Core.List.{List}
 use lib.IntN.{ℤ, pos, neg_ℤ, +ℤ_idl}
-use lib.Signed.{le_z, lt_z}
 use mir.Facts.{to_z-of_z}
 use borrow.Author.Rules.{rules}
 use Rattle.refusal.specs.Tests.{done}

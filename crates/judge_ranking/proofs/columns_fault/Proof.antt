@@ -1,6 +1,5 @@
 -- `judge_ranking::columns_fault` meets its contract: where all columns hold nothing is told, and otherwise the walk goes on. Assumes nothing.
-use Prim.Native.Nat.{◌≤◌}
-use mathlib.Core.Path.{◌≡◌, sym, ◌∙◌}
+use mathlib.Core.Path.{◌≡◌, sym}
 use native.Mathlib.Omega.{arith}
 use mir.Facts.{to_z-of_z}
 use borrow.Author.Rules.{rules}

@@ -9,7 +9,6 @@ use lib.ListN.{length, get_or}
 use mir.Facts.{to_z-of_z}
 use mir.Syntax.{w64}
 use borrow.Author.Rules.{rules, sfits_of}
-use borrow.Author.Tests.{not-true, not-false}
 use Rattle.record.specs.Ranges.{either_way, state_entries, within}
 use Rattle.judge_state.proofs.StateLaws.{SoFar, stops, goes_on, ends}
 use Rattle.judge_state.proofs.before_outside.Statement.{statement}

@@ -1,6 +1,5 @@
 -- `judge_weighed::times_entry` meets its contract: the product fits. Assumes nothing.
 use Prim.Native.Nat.{◌*◌, ◌≤◌}
-use mathlib.Core.Path.{refl}
 use native.Mathlib.Omega.{arith}
 use lib.IntN.{nat_abs, ◌*ℤ◌}
 use mir.Facts.{to_z-of_z}

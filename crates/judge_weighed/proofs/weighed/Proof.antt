@@ -1,9 +1,8 @@
 -- `judge_weighed::weighed` meets its contract: before column j the columns so far hold over A, and `late` of them come before the first that
 -- fails over A'. Assumes nothing.
-use Prim.Native.Nat.{◌+◌, ◌-◌, ◌≤◌, ◌<◌}
+use Prim.Native.Nat.{◌+◌, ◌-◌, ◌≤◌}
 use mathlib.Core.Path.{◌≡◌, refl, sym, ◌∙◌}
 use mathlib.Core.Bool.{true, false}
-use mathlib.Core.List.{List}
 use native.Mathlib.Omega.{arith}
 use lib.Signed.{le_z}
 use mir.Syntax.{w64}

@@ -3,7 +3,6 @@ use mathlib.Core.Path.{◌≡◌, refl, sym, ap, ◌∙◌}
 use Prim.Native.Nat.{ℕ}
 use mathlib.Core.Bool.{true, false≢true}
 use mathlib.Core.List.{[]}
-use borrow.Author.Tests.{not-true, not-false}
 use Rattle.record.specs.Layouts.{kind_of}
 use Rattle.record.specs.Readers.{loop_reader}
 use Rattle.record.specs.Wants.{wants_of}

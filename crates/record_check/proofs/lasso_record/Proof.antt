@@ -5,7 +5,6 @@ use mathlib.Core.Bool.{true}
 use native.Mathlib.Nat.{mul-le-mul}
 use native.Mathlib.Omega.{arith}
 use lib.IntN.{pos}
-use borrow.Author.Tests.{not-true, not-false}
 use Rattle.record.specs.Layouts.{length_of}
 use Rattle.record.specs.Ranges.{rows, within}
 use Rattle.record_fields.specs.Runs.{fault}

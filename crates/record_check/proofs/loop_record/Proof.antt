@@ -5,7 +5,6 @@ use mathlib.Core.Bool.{true}
 use native.Mathlib.Nat.{mul-le-mul}
 use native.Mathlib.Omega.{arith}
 use lib.IntN.{pos}
-use borrow.Author.Tests.{not-true, not-false}
 use Rattle.record.specs.Ranges.{variables, rows, within}
 use Rattle.record.proofs.CountLimits.{variables_most, rows_most}
 use Rattle.record_check.proofs.LoopWays.{loop_short, loop_n, loop_m, loop_length, loop_values}

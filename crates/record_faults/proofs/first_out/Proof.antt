@@ -1,10 +1,9 @@
 -- `record_faults::first_out` meets its contract: a walk along the run. Assumes nothing.
-use mathlib.Core.Path.{◌≡◌, refl, sym, ap, ◌∙◌}
+use mathlib.Core.Path.{◌≡◌, refl, sym, ◌∙◌}
 use Prim.Native.Nat.{◌+◌, ◌≤◌, ◌<◌}
 use native.Mathlib.Nat.{mul-le-mul_right}
 use native.Mathlib.Omega.{arith}
 use lib.ListN.{length}
-use borrow.Author.Tests.{not-true, not-false}
 use Rattle.record.specs.Fields.{width}
 use Rattle.record.specs.Layouts.{entry, direction, multiplier}
 use Rattle.record_fields.proofs.Walks.{Run, walk_start, run_more, run_here, run_end}

@@ -6,7 +6,6 @@ use lib.ListN.{length}
 use native.Mathlib.Nat.{mul-le-mul_right}
 use native.Mathlib.Omega.{arith}
 use borrow.Author.Rules.{rules}
-use borrow.Author.Tests.{not-true, not-false}
 use Rattle.record.specs.Layouts.{entry, row, rows_of}
 use Rattle.record.proofs.Lengths.{widths_row}
 use Rattle.record_fields.specs.Runs.{all_fit}

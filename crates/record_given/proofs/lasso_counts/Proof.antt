@@ -7,7 +7,6 @@ use lib.IntN.{pos}
 use lib.ListN.{get_or}
 use mir.Facts.{to_z-of_z, Fits-of_lt}
 use borrow.Author.Rules.{sfits_of}
-use borrow.Author.Tests.{not-true, not-false}
 use Rattle.record.specs.Layouts.{kind_of, is_loop, is_lasso}
 use Rattle.record.specs.Wants.{kinds_written}
 use Rattle.record.specs.Ranges.{◌to◌, rows, within}

@@ -1,6 +1,5 @@
 -- `record_given::loop_counts` meets its contract. Assumes nothing.
 use mathlib.Core.Path.{sym, ◌∙◌}
-use borrow.Author.Tests.{not-true, not-false}
 use Rattle.record_given.proofs.CountingWays.{loop_n, loop_m, loop_counted}
 use borrow.Author.Rules.{rules}
 use Rattle.record_given.proofs.loop_counts.Statement.{statement}

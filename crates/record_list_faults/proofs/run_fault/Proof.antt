@@ -10,7 +10,6 @@ use mir.Syntax.{w64}
 use mir.Val.{to_z, of_z}
 use mir.Facts.{to_z-of_z}
 use borrow.Author.Rules.{rules, sfits_of}
-use borrow.Author.Tests.{not-true, not-false}
 use Rattle.record.specs.Ranges.{within}
 use Rattle.record_fields.proofs.ListFaults.{ListRun, list_run_start, list_run_more, list_run_here, list_run_end}
 use Rattle.record_list_faults.proofs.run_fault.Statement.{statement}

@@ -4,7 +4,6 @@ use mathlib.Core.Bool.{false}
 use native.Mathlib.Omega.{arith}
 use lib.IntN.{pos}
 use lib.ListN.{drop}
-use borrow.Author.Tests.{not-true, not-false}
 use Rattle.endian.specs.Numbers.{little_at}
 use Rattle.record.specs.Ranges.{within}
 use Rattle.record_check.specs.Checks.{Framed}

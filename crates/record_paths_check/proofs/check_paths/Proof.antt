@@ -6,7 +6,6 @@ use Prim.Native.Nat.{ℕ}
 use native.Mathlib.Omega.{arith}
 use lib.IntN.{pos}
 use lib.ListN.{drop}
-use borrow.Author.Tests.{not-true, not-false}
 use Rattle.endian.specs.Numbers.{little_at}
 use Rattle.record.specs.Ranges.{variables, within}
 use Rattle.record_check.specs.Checks.{Framed}

@@ -4,7 +4,6 @@ use mathlib.Core.Bool.{true, false}
 use Prim.Native.Nat.{◌*◌, ◌-◌, ◌≤◌}
 use native.Mathlib.Nat.{mul-le-mul_right}
 use native.Mathlib.Omega.{arith}
-use borrow.Author.Tests.{not-true, not-false}
 use Rattle.record.proofs.CountLimits.{rows_most}
 use Rattle.record_paths.specs.PathLoops.{rows_in}
 use Rattle.record_paths_check.specs.PathChecks.{m_fits}

@@ -5,7 +5,6 @@ use Prim.Native.Nat.{◌+◌, ◌*◌}
 use native.Mathlib.Omega.{arith}
 use lib.IntN.{pos}
 use lib.ListN.{drop}
-use borrow.Author.Tests.{not-true, not-false}
 use Rattle.endian.specs.Numbers.{little_at}
 use Rattle.record.specs.Ranges.{variables, rows, within}
 use Rattle.record_check.specs.Checks.{Framed}

@@ -3,7 +3,6 @@ use mathlib.Core.Path.{◌≡◌, sym, ◌∙◌}
 use mathlib.Core.Bool.{true, false}
 use Prim.Native.Nat.{◌-◌}
 use native.Mathlib.Omega.{arith}
-use borrow.Author.Tests.{not-true, not-false}
 use Rattle.record_short.specs.ShortRecords.{row_rises, has_weight}
 use Rattle.record_short_check.proofs.TripleWalks.{SoFar, walk_start, walk_more, walk_stops, walk_ends, low_row}
 use borrow.Author.Rules.{rules}

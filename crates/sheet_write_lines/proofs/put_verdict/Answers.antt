@@ -1,9 +1,9 @@
 -- `sheet_write_lines::put_verdict` meets its contract: in each arm one writer puts the whole line.
-use Rattle.std.proofs.Common.{◌≡◌, ap, ◌++◌, length, length-append, arith, rules}
+use Rattle.std.proofs.Common.{ap, length, length-append, arith, rules}
 use mir.Syntax.{w64}
 use mir.Val.{SFits}
 use mir.Facts.{to_z-of_z}
-use Rattle.sheet_lines.proofs.LineLaws.{fractions_line, nothing_line, lexicographic_line, settling_line, ranking_line, lasso_line, whole_exclusion_line, fractions_exclusion_line}
+use Rattle.sheet_lines.proofs.LineLaws.{nothing_line, lexicographic_line, settling_line, ranking_line, lasso_line, whole_exclusion_line, fractions_exclusion_line}
 use Rattle.sheet_write_lines.proofs.put_verdict.Goals as goal
 
 pub put_refusal-requires : goal.put_refusal-requires
