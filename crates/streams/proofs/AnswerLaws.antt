@@ -1,74 +1,103 @@
--- The laws of steps, test by test, and that no more is moved than there is. Assumes nothing.
-use mathlib.Core.Path.{◌≡◌, refl, sym, ap, ◌∙◌}
-use Prim.Native.Nat.{ℕ, zero, suc, ◌+◌, ◌-◌, ◌≤◌}
-use mathlib.Core.Bool.{true, false, cond}
-use mathlib.Core.List.{List}
-use native.Mathlib.Omega.{arith}
-use lib.IntN.{ℤ, pos, negsuc}
-use lib.ListN.{length, take, drop, length-take, length-drop}
-use lib.Seq.{length-take-le}
-use lib.Signed.{lt_z}
-use borrow.Author.Tests.{lt-ltb, ne_eqb}
-use mir.Facts.{to_z-of_z}
-use mir.Syntax.{w32}
-use mir.Val.{SFits, to_z, of_z}
-use Rattle.io.specs.Counts.{IsPrefixLen, clamp_len}
-use Rattle.streams.specs.SystemAnswers.{passes, step_of, Within, Tells}
-use Rattle.streams.specs.declared.Reached.{Reached}
-use Rattle.streams.specs.declared.Step.{Step}
+-- The laws of steps, test by test, and of bytes that several calls move. Assumes nothing.
+use Rattle.std.proofs.Common.{◌≡◌, ℕ, zero, suc, ◌+◌, ◌-◌, ◌≤◌, min, Bool, true, false, cond, List, [], ◌++◌, length, take, drop, Result, Ok, Err, None, Some, Option, refl, sym, ap, ◌∙◌, subst, take-take, drop_at, take-append-drop, append-nil}
+use Rattle.std.proofs.lemmas.List.{drop-take, take_min, take_rest, take-append-le}
+use Rattle.std.proofs.KnownBytes.{Consumes-trans, Appends-trans}
+use Rattle.std.specs.Io.KnownBytes.{Keeps, Appends, Consumes, ReadConsumes, WriteAppends}
+use Rattle.std.specs.declared.io.Error.{Error}
+use Rattle.std.specs.declared.io.ErrorKind.{ErrorKind}
+use Rattle.std.specs.declared.io.ErrorKind.TheVariants.{Interrupted, WouldBlock}
+use Rattle.std.specs.IoError.{error_kind}
+use Rattle.streams.specs.SystemAnswers.{passes, step_of, StepConsumes, StepAppends}
 use Rattle.streams.specs.declared.Step.TheVariants.{Moved, Nothing, Again, Failed}
 
 -- ---- the errors that pass
 
-pub is_number : (error : ℤ) (n : ℕ) → SFits w32 error → of_z w32 error ≡ n → error ≡ to_z w32 n
-is_number error n fits same = sym (to_z-of_z fits) ∙ ap (to_z w32) same
-
-pub passes_not : (error : ℤ) → (of_z w32 error ≡ 4 → ⊥) → (of_z w32 error ≡ 11 → ⊥) → passes error ≡ false
+pub passes-not : (error : ErrorKind) → (error ≡ WouldBlock → ⊥) → (error ≡ Interrupted → ⊥) → false ≡ passes error
 unfolding passes
-passes_not (pos error) four eleven = rw (ne_eqb error 4 four, ne_eqb error 11 eleven)
-passes_not (negsuc error) four eleven = refl
+passes-not Interrupted blocks interrupted = absurd (interrupted refl)
+passes-not WouldBlock blocks interrupted = absurd (blocks refl)
+passes-not _ blocks interrupted = refl
 
 -- ---- the answers, test by test
 
-never : {X : Type 0} → false ≡ true → X
-never e = let z : ◌≡◌ {A = ℕ} 0 1 = cc in absurd (omega arith)
-
-pub step_moved : (got : ℤ) (most : ℕ) (error : ℤ) → lt_z (pos 0) got ≡ true → Moved (clamp_len got most) ≡ step_of got most error
+pub step-nothing : (count most : ℕ) → count ≡ 0 → Nothing ≡ step_of (Ok count) most
 unfolding step_of
-step_moved (pos zero) most error above = never above
-step_moved (pos (suc count)) most error above = refl
-step_moved (negsuc count) most error above = never above
+step-nothing count most none = rw none
 
-pub step_nothing : (got : ℤ) (most : ℕ) (error : ℤ) → got ≡ pos 0 → Nothing ≡ step_of got most error
+pub step-moved : (count most : ℕ) → (count ≡ 0 → ⊥) → Moved (min count most) ≡ step_of (Ok count) most
 unfolding step_of
-step_nothing got most error none = rw none
+step-moved zero most some = absurd (some refl)
+step-moved (suc count) most some = refl
 
-pub step_failed : (got : ℤ) (most : ℕ) (error : ℤ) → lt_z (pos 0) got ≡ false → (got ≡ pos 0 → ⊥) → cond (passes error) Again Failed ≡ step_of got most error
+pub step-again : (error : Error) (most : ℕ) → true ≡ passes (error_kind error) → Again ≡ step_of (Err error) most
 unfolding step_of
-step_failed (pos zero) most error above some = absurd (some refl)
-step_failed (pos (suc count)) most error above some = never (sym above ∙ lt-ltb 0 (suc count) (omega arith))
-step_failed (negsuc count) most error above some = refl
+step-again error most pass = ap (λ b. cond b Again (Failed error)) pass
 
--- single answers: the end, an interrupted call, a moment's emptiness, and a failure (EIO is 5)
-pub answers_told : (step_of (pos 0) 8 (pos 4) ≡ Nothing) × (step_of (negsuc 0) 8 (pos 4) ≡ Again) × (step_of (negsuc 0) 8 (pos 11) ≡ Again) × (step_of (negsuc 0) 8 (pos 5) ≡ Failed)
-unfolding step_of passes
-answers_told = (refl, refl, refl, refl)
+pub step-failed : (error : Error) (most : ℕ) → false ≡ passes (error_kind error) → Failed error ≡ step_of (Err error) most
+unfolding step_of
+step-failed error most pass = ap (λ b. cond b Again (Failed error)) pass
 
--- ---- how far
+-- ---- what a read or a write did to known bytes
 
--- a step that moved bytes moved no more than the rest of a list has
-pub moved_within : (list : List ℕ) (size count : ℕ) (step : Step) → Within (length (take (length list - size) (drop size list))) step → step ≡ Moved count → size ≤ length list
-    → size + count ≤ length list
-moved_within list size count step within moved inside =
-    let few : count ≤ length (take (length list - size) (drop size list)) = rw moved at within in
-    omega (arith, simp (length-take, length-drop) at few)
+none-read : (old new : Option (List ℕ)) → Consumes old new [] → Keeps old new
+none-read None new read = tt
+none-read (Some xs) None read = absurd read
+none-read (Some xs) (Some ys) read = sym read
 
-pub counts : (count : ℕ) (list : List ℕ) → count ≤ length list → IsPrefixLen count list
-counts count list within = (within, sym (length-take-le count list within))
+none-written : (old new : Option (List ℕ)) → Appends old new [] → Keeps old new
+none-written None new written = tt
+none-written (Some xs) None written = absurd written
+none-written (Some xs) (Some ys) written = written ∙ append-nil xs
 
-pub goes_tells : (r : Reached) → r.more ≡ true → Tells r
-goes_tells r more stops = never (sym stops ∙ more)
+unread : (old new : Option (List ℕ)) (error : Error) (buf : List ℕ) (pass : Bool) → Keeps old new → StepConsumes old new (cond pass Again (Failed error)) buf
+unread old new error buf true kept = kept
+unread old new error buf false kept = kept
 
--- what told a failure promises nothing of the rest
-pub told_all : {X : Type 0} (r : Reached) → r.failed ≡ true → r.failed ≡ false → X
-told_all r told not-told = never (sym not-told ∙ told)
+unwritten : (old new : Option (List ℕ)) (error : Error) (buf : List ℕ) (pass : Bool) → Keeps old new → StepAppends old new (cond pass Again (Failed error)) buf
+unwritten old new error buf true kept = kept
+unwritten old new error buf false kept = kept
+
+pub step-consumes : (old new : Option (List ℕ)) (got : Result ℕ Error) (buf : List ℕ) → ReadConsumes old new got buf → StepConsumes old new (step_of got (length buf)) buf
+unfolding step_of
+step-consumes old new (Ok zero) buf read = (none-read old new read.0, read.1 refl)
+step-consumes old new (Ok (suc count)) buf read = subst (Consumes old new) (sym (take_min (suc count) buf)) read.0
+step-consumes old new (Err error) buf kept = unread old new error buf (passes (error_kind error)) kept
+
+pub step-appends : (old new : Option (List ℕ)) (got : Result ℕ Error) (buf : List ℕ) → WriteAppends old new got buf → StepAppends old new (step_of got (length buf)) buf
+unfolding step_of
+step-appends old new (Ok zero) buf written = none-written old new written
+step-appends old new (Ok (suc count)) buf written = subst (Appends old new) (sym (take_min (suc count) buf)) written
+step-appends old new (Err error) buf kept = unwritten old new error buf (passes (error_kind error)) kept
+
+-- ---- in several calls
+
+-- what was read into a part lies behind what stands before it
+pub read-behind : (old new : Option (List ℕ)) (front part rest : List ℕ) (size count to : ℕ) → length front ≡ size → count ≤ length part → to ≡ size + count → Consumes old new (take count part)
+    → Consumes old new (drop size (take to (front ++ (part ++ rest))))
+read-behind old new front part rest size count to long within sum read =
+    let all = front ++ (part ++ rest) in
+    let behind : drop size (take to all) ≡ take count part =
+    ap (λ n. drop size (take n all)) sum ∙ drop-take size count all ∙ ap (take count) (drop_at front (part ++ rest) size long) ∙ take-append-le count part rest within in
+    subst (Consumes old new) (sym behind) read
+
+-- what was written of the rest of a text
+pub written-behind : (old new : Option (List ℕ)) (text : List ℕ) (size count to : ℕ) → to ≡ size + count → Appends old new (take count (take (length text - size) (drop size text)))
+    → Appends old new (drop size (take to text))
+written-behind old new text size count to sum written =
+    let behind : drop size (take to text) ≡ take count (take (length text - size) (drop size text)) =
+    ap (λ n. drop size (take n text)) sum ∙ drop-take size count text ∙ ap (take count) (sym (take_rest text size)) in
+    subst (Appends old new) (sym behind) written
+
+-- the first bytes of a list, in two parts
+in-parts : (list : List ℕ) (size to : ℕ) → size ≤ to → take to list ≡ take size list ++ drop size (take to list)
+in-parts list size to grows = sym (take-append-drop size (take to list)) ∙ ap (λ l. l ++ drop size (take to list)) (take-take size to list grows)
+
+pub read-on : (a b c : Option (List ℕ)) (room more : List ℕ) (size to : ℕ) → size ≤ to → take size more ≡ take size room → Consumes a b (take size room) → Consumes b c (drop size (take to more))
+    → Consumes a c (take to more)
+read-on a b c room more size to grows front first second =
+    let parts : take to more ≡ take size room ++ drop size (take to more) = in-parts more size to grows ∙ ap (λ l. l ++ drop size (take to more)) front in
+    subst (Consumes a c) (sym parts) (Consumes-trans a b c _ _ first second)
+
+pub written-on : (a b c : Option (List ℕ)) (text : List ℕ) (size to : ℕ) → size ≤ to → Appends a b (take size text) → Appends b c (drop size (take to text)) → Appends a c (take to text)
+written-on a b c text size to grows first second =
+    subst (Appends a c) (sym (in-parts text size to grows)) (Appends-trans a b c _ _ first second)

@@ -1,29 +1,53 @@
 -- What the answer of a read or a write means. Only 0 is the end of an input, and no failure is: a call that was interrupted or that
 -- would have had to wait is tried again, and every other failure is told.
-use Rattle.std.specs.Prelude.{ℕ, zero, suc, ◌≤◌, Bool, true, false, cond, ◌||◌, ◌≡◌, eqb, ℤ, pos, negsuc}
-use Rattle.io.specs.Counts.{clamp_len}
+use Rattle.std.specs.Prelude.{ℕ, zero, suc, ◌≤◌, ◌≡◌, ◌<◌, min, Bool, true, false, cond, List, length, take, ⊤, Result, Ok, Err}
+use Rattle.std.specs.IoError.{error_kind}
+use Rattle.std.specs.Io.KnownBytes.{Keeps, Appends, Consumes, IsAtEnd}
+use Rattle.std.specs.declared.option.Option.{Option}
+use Rattle.std.specs.declared.io.Error.{Error}
+use Rattle.std.specs.declared.io.ErrorKind.{ErrorKind}
+use Rattle.std.specs.declared.io.ErrorKind.TheVariants.{Interrupted, WouldBlock}
 use Rattle.streams.specs.declared.Reached.{Reached}
 use Rattle.streams.specs.declared.Step.{Step}
 use Rattle.streams.specs.declared.Step.TheVariants.{Moved, Nothing, Again, Failed}
 
--- the errors that pass: EINTR is 4, EAGAIN is 11
-unfoldable pub passes : ℤ → Bool
-passes (pos error) = eqb error 4 || eqb error 11
-passes (negsuc error) = false
+-- the first n of a list are there, and as many as told
+abbrev pub IsPrefixLen : ℕ → List ℕ → Type 0
+IsPrefixLen n xs = (n ≤ length xs) × (n ≡ length (take n xs))
 
--- the answer of a call on a buffer of `most` bytes, and errno
-unfoldable pub step_of : ℤ → ℕ → ℤ → Step
-step_of (pos zero) most error = Nothing
-step_of (pos (suc count)) most error = Moved (clamp_len (pos (suc count)) most)
-step_of (negsuc _) most error = cond (passes error) Again Failed
+-- the errors that pass: EINTR is `Interrupted`, EAGAIN is `WouldBlock`
+unfoldable pub passes : ErrorKind → Bool
+passes Interrupted = true
+passes WouldBlock = true
+passes _ = false
+
+-- the answer of a call on a buffer of `most` bytes
+unfoldable pub step_of : Result ℕ Error → ℕ → Step
+step_of (Ok zero) most = Nothing
+step_of (Ok (suc count)) most = Moved (min (suc count) most)
+step_of (Err error) most = cond (passes (error_kind error)) Again (Failed error)
 
 -- no more bytes were moved than there are
 abbrev pub Within : ℕ → Step → Type 0
 Within most (Moved count) = count ≤ most
-Within most Nothing = Unit {0}
-Within most Again = Unit {0}
-Within most Failed = Unit {0}
+Within most Nothing = ⊤
+Within most Again = ⊤
+Within most (Failed error) = ⊤
 
 -- what stops has told a failure
 abbrev pub Tells : Reached → Type 0
 Tells r = r.more ≡ false → r.failed ≡ true
+
+-- a read gave the bytes that it moved, and gave none only at the end or with no room
+abbrev pub StepConsumes : Option (List ℕ) → Option (List ℕ) → Step → List ℕ → Type 0
+StepConsumes old new (Moved count) buf = Consumes old new (take count buf)
+StepConsumes old new Nothing buf = Keeps old new × (0 < length buf → IsAtEnd new)
+StepConsumes old new Again buf = Keeps old new
+StepConsumes old new (Failed error) buf = Keeps old new
+
+-- a write took the bytes that it moved
+abbrev pub StepAppends : Option (List ℕ) → Option (List ℕ) → Step → List ℕ → Type 0
+StepAppends old new (Moved count) buf = Appends old new (take count buf)
+StepAppends old new Nothing buf = Keeps old new
+StepAppends old new Again buf = Keeps old new
+StepAppends old new (Failed error) buf = Keeps old new

@@ -1,12 +1,16 @@
 // Standard input and standard output, for programs: an input is read to its end, a text is written to its last byte, and what fails is told by
 // a line on standard error. A program has no exit status, so that line is how its caller knows.
+//
+// The streams are a caller's: a reader, a writer, and a writer for the line that tells a failure. Of a reader and a writer whose bytes are known,
+// the contracts say which bytes were moved.
 #![tactic(auto)]
 
-ghost use Rattle.std.specs.Prelude.{◌≤◌, ◌≡◌, true, false, length};
-ghost use Rattle.io.specs.Counts.{IsPrefixLen};
-ghost use Rattle.streams.specs.SystemAnswers.{passes, step_of, Within, Tells};
+ghost use Rattle.std.specs.Prelude.{◌≤◌, ◌<◌, ◌≡◌, true, false, length, take, drop};
+ghost use Rattle.std.specs.Io.KnownBytes.{Appends, Consumes, IsAtEnd};
+ghost use Rattle.streams.specs.SystemAnswers.{passes, step_of, IsPrefixLen, Within, Tells, StepConsumes, StepAppends};
 
-use libc::{STDERR_FILENO, STDIN_FILENO, STDOUT_FILENO};
+use std::io::{ErrorKind, Read, Write};
+use std::{hint, io};
 
 // What a read or a write did.
 #[derive(Clone, Copy)]
@@ -14,37 +18,32 @@ enum Step {
     Moved(usize),
     Nothing,
     Again,
-    Failed,
+    Failed(io::Error),
 }
 
 // Whether an error passes: the call was interrupted, or it would have had to wait.
-fn passing(error: i32) -> bool
+fn passing(error: ErrorKind) -> bool
     ensures { result ≡ passes error }
 {
-    if error == libc::EINTR {
-        return true;
-    }
-    if error == libc::EAGAIN {
-        return true;
-    }
-    false
+    matches!(error, ErrorKind::Interrupted | ErrorKind::WouldBlock)
 }
 
-// What the answer of a call on a buffer means, with errno.
-fn step_of(got: isize, buf: &[u8], error: i32) -> Step
-    ensures value { result ≡ step_of got (length buf.now) error }
+// What the answer of a call on a buffer means.
+fn step_of(got: io::Result<usize>, buf: &[u8]) -> Step
+    ensures value { result ≡ step_of got (length buf.now) }
     ensures within { Within (length buf.now) result }
 {
-    if got > 0 {
-        return Step::Moved(io::count(got, buf));
+    match got {
+        Ok(0) => Step::Nothing,
+        Ok(count) => Step::Moved(count.min(buf.len())),
+        Err(error) => {
+            if passing(error.kind()) {
+                Step::Again
+            } else {
+                Step::Failed(error)
+            }
+        }
     }
-    if got == 0 {
-        return Step::Nothing;
-    }
-    if passing(error) {
-        return Step::Again;
-    }
-    return Step::Failed;
 }
 
 // How far a stream has come: the bytes moved so far, whether it goes on, and whether a failure was told.
@@ -56,102 +55,153 @@ pub struct Reached {
 }
 
 fn goes_on(size: usize) -> Reached
-    ensures { (result.size ≡ size) × (result.more ≡ true) }
+    ensures size { result.size ≡ size }
+    ensures more { result.more ≡ true }
 {
     Reached {
-        size: size,
+        size,
         more: true,
         failed: false,
     }
 }
 
 fn ended(size: usize) -> Reached
-    ensures { (result.size ≡ size) × (result.failed ≡ false) }
+    ensures size { result.size ≡ size }
+    ensures not_failed { result.failed ≡ false }
 {
     Reached {
-        size: size,
+        size,
         more: false,
         failed: false,
     }
 }
 
 fn stopped(size: usize) -> Reached
-    ensures { (result.size ≡ size) × (result.failed ≡ true) }
+    ensures size { result.size ≡ size }
+    ensures failed { result.failed ≡ true }
 {
     Reached {
-        size: size,
+        size,
         more: false,
         failed: true,
     }
 }
 
-// Lets others run before a call is tried again.
+// Before a call is tried again.
 fn waited(size: usize) -> Reached
-    ensures { (result.size ≡ size) × (result.more ≡ true) }
+    ensures size { result.size ≡ size }
+    ensures more { result.more ≡ true }
 {
-    libc::sched_yield();
+    hint::spin_loop();
     goes_on(size)
 }
 
-// Tells a call that failed, with the reason that errno gives.
-fn failed(what: &[u8], size: usize) -> Reached
-    ensures { (result.size ≡ size) × (result.failed ≡ true) }
+// The system's words for an error, without the number that `Display` writes behind them.
+fn words(text: &str) -> &str {
+    match text.rsplit_once(" (os error ") {
+        Some((words, _)) => words,
+        None => text,
+    }
+}
+
+// Writes a line: what failed, and why.
+fn tell<E: Write>(errors: &mut E, what: &[u8], why: &[u8]) {
+    let _ = errors.write_all(what);
+    let _ = errors.write_all(b": ");
+    let _ = errors.write_all(why);
+    let _ = errors.write_all(b"\n");
+}
+
+// Tells a call that failed, with the reason that the system gives.
+fn tell_error<E: Write>(errors: &mut E, what: &[u8], error: &io::Error) {
+    let mut room = [0u8; 320];
+    let mut rest = &mut room[..];
+    let _ = write!(rest, "{error}");
+    let size = 320usize.saturating_sub(rest.len());
+    let text = str::from_utf8(&room[..size]).unwrap_or("");
+    tell(errors, what, words(text).as_bytes());
+}
+
+fn failed<E: Write>(errors: &mut E, what: &[u8], error: &io::Error, size: usize) -> Reached
+    ensures size { result.size ≡ size }
+    ensures failed { result.failed ≡ true }
 {
-    os::fail(what);
+    tell_error(errors, what, error);
     stopped(size)
 }
 
 // Tells what failed where no call says why.
-fn gave_up(what: &[u8], why: &[u8], size: usize) -> Reached
-    ensures { (result.size ≡ size) × (result.failed ≡ true) }
+fn gave_up<E: Write>(errors: &mut E, what: &[u8], why: &[u8], size: usize) -> Reached
+    ensures size { result.size ≡ size }
+    ensures failed { result.failed ≡ true }
 {
-    io::write_all(STDERR_FILENO, what);
-    io::write_all(STDERR_FILENO, why);
+    tell(errors, what, why);
     stopped(size)
 }
 
 // A proved loop has to end, so the loops here count their turns down from a number that no run uses up. This is what would be told after them.
-fn no_turns_left(what: &[u8], size: usize) -> Reached
-    ensures { (result.size ≡ size) × (result.failed ≡ true) }
+fn no_turns_left<E: Write>(errors: &mut E, what: &[u8], size: usize) -> Reached
+    ensures size { result.size ≡ size }
+    ensures failed { result.failed ≡ true }
 {
-    gave_up(what, b": gave up waiting\n", size)
+    gave_up(errors, what, b"gave up waiting", size)
 }
 
-fn read_some(buf: &mut [u8]) -> Step
-    ensures { Within (length buf.old) result }
+fn read_some<R: Read>(input: &mut R, buf: &mut [u8]) -> Step
+    ensures within { Within (length buf.old) result }
+    ensures bytes { StepConsumes (R.remaining input.old) (R.remaining input.new) result buf.new }
 {
-    let got = libc::read(STDIN_FILENO, buf);
-    let error = os::errno();
-    step_of(got, buf, error)
+    let got = input.read(buf);
+    step_of(got, buf)
 }
 
 // One read into the room behind its first bytes.
-fn read_more(room: &mut [u8], size: usize, what: &[u8]) -> Reached
+fn read_more<R: Read, E: Write>(
+    input: &mut R,
+    errors: &mut E,
+    room: &mut [u8],
+    size: usize,
+    what: &[u8],
+) -> Reached
     requires { size ≤ length room.old }
-    ensures { result.size ≤ length room.old }
+    ensures within { result.size ≤ length room.old }
+    ensures grows { size ≤ result.size }
+    ensures front { take size room.new ≡ take size room.old }
+    ensures bytes { Consumes (R.remaining input.old) (R.remaining input.new)
+        (drop size (take result.size room.new)) }
+    ensures end { result.more ≡ false → result.failed ≡ false → size < length room.old
+        → IsAtEnd (R.remaining input.new) }
 {
-    match read_some(&mut room[size..]) {
-        Step::Moved(count) => return goes_on(size + count),
-        Step::Nothing => return ended(size),
-        Step::Again => return waited(size),
-        Step::Failed => return failed(what, size),
+    match read_some(input, &mut room[size..]) {
+        Step::Moved(count) => goes_on(size + count),
+        Step::Nothing => ended(size),
+        Step::Again => waited(size),
+        Step::Failed(error) => failed(errors, what, &error, size),
     }
 }
 
 // Reads until the input ends, the room is full, or a read fails, which is told as `what` with the reason.
-pub fn read_input(room: &mut [u8], what: &[u8]) -> Reached
-    ensures { IsPrefixLen result.size room.new }
+pub fn read_input<R: Read, E: Write>(
+    input: &mut R,
+    errors: &mut E,
+    room: &mut [u8],
+    what: &[u8],
+) -> Reached
+    ensures prefix { IsPrefixLen result.size room.new }
+    ensures bytes { Consumes (R.remaining input.old) (R.remaining input.new)
+        (take result.size room.new) }
+    ensures end { result.failed ≡ false → result.size < length room.old
+        → IsAtEnd (R.remaining input.new) }
 {
     let mut size = 0;
     let mut turns = u64::MAX;
     while size < room.len() {
         if turns == 0 {
-            return no_turns_left(what, size);
+            return no_turns_left(errors, what, size);
         }
         turns -= 1;
-        let reached = read_more(room, size, what);
-        let more = reached.more;
-        if !more {
+        let reached = read_more(input, errors, room, size, what);
+        if !reached.more {
             return reached;
         }
         size = reached.size;
@@ -159,41 +209,58 @@ pub fn read_input(room: &mut [u8], what: &[u8]) -> Reached
     ended(size)
 }
 
-fn write_some(buf: &[u8]) -> Step
-    ensures { Within (length buf.now) result }
+fn write_some<W: Write>(output: &mut W, buf: &[u8]) -> Step
+    ensures within { Within (length buf.now) result }
+    ensures bytes { StepAppends (W.contents output.old) (W.contents output.new) result buf.now }
 {
-    let got = libc::write(STDOUT_FILENO, buf);
-    let error = os::errno();
-    step_of(got, buf, error)
+    let got = output.write(buf);
+    step_of(got, buf)
 }
 
 // One write of the text behind its first bytes.
-fn write_more(text: &[u8], size: usize, what: &[u8]) -> Reached
+fn write_more<W: Write, E: Write>(
+    output: &mut W,
+    errors: &mut E,
+    text: &[u8],
+    size: usize,
+    what: &[u8],
+) -> Reached
     requires { size ≤ length text.now }
-    ensures { (result.size ≤ length text.now) × Tells result }
+    ensures within { result.size ≤ length text.now }
+    ensures tells { Tells result }
+    ensures grows { size ≤ result.size }
+    ensures bytes { Appends (W.contents output.old) (W.contents output.new)
+        (drop size (take result.size text.now)) }
 {
-    match write_some(&text[size..]) {
-        Step::Moved(count) => return goes_on(size + count),
-        Step::Nothing => return gave_up(what, b": no byte is taken\n", size),
-        Step::Again => return waited(size),
-        Step::Failed => return failed(what, size),
+    match write_some(output, &text[size..]) {
+        Step::Moved(count) => goes_on(size + count),
+        Step::Nothing => gave_up(errors, what, b"no byte is taken", size),
+        Step::Again => waited(size),
+        Step::Failed(error) => failed(errors, what, &error, size),
     }
 }
 
 // Writes all of a text, or stops at a write that fails, which is told as `what` with the reason.
-pub fn write_text(text: &[u8], what: &[u8]) -> Reached
-    ensures { (result.size ≤ length text.now) × (result.failed ≡ false → result.size ≡ length text.now) }
+pub fn write_text<W: Write, E: Write>(
+    output: &mut W,
+    errors: &mut E,
+    text: &[u8],
+    what: &[u8],
+) -> Reached
+    ensures within { result.size ≤ length text.now }
+    ensures whole { result.failed ≡ false → result.size ≡ length text.now }
+    ensures bytes { Appends (W.contents output.old) (W.contents output.new)
+        (take result.size text.now) }
 {
     let mut size = 0;
     let mut turns = u64::MAX;
     while size < text.len() {
         if turns == 0 {
-            return no_turns_left(what, size);
+            return no_turns_left(errors, what, size);
         }
         turns -= 1;
-        let reached = write_more(text, size, what);
-        let more = reached.more;
-        if !more {
+        let reached = write_more(output, errors, text, size, what);
+        if !reached.more {
             return reached;
         }
         size = reached.size;
