@@ -15,6 +15,9 @@
 
 ghost use Rattle.std.specs.Prelude.{◌≤◌, ◌<◌, ◌≡◌, length};
 
+use cases_telling::Printer;
+use std::io::Write;
+
 // Room for the text of the cases.
 fn text_room() -> [u8; 131072]
     ensures { 131072 ≡ length result }
@@ -37,7 +40,7 @@ fn value_list() -> [i64; 4096]
 
 // ---- the calls, each on the line of a case from a place on
 
-fn read_loop(name: &[u8], line: &[u8], from: usize)
+fn read_loop<W: Write, E: Write>(printer: &mut Printer<W, E>, name: &[u8], line: &[u8], from: usize)
     requires { from ≤ length line.now }
 {
     let mut room = record_room();
@@ -50,10 +53,15 @@ fn read_loop(name: &[u8], line: &[u8], from: usize)
         cases_lines::bytes_of(&room, size),
         cases_lines::places_of(&mut values, list),
     );
-    cases_telling::read(name, r);
+    printer.read(name, r);
 }
 
-fn read_certificate(name: &[u8], line: &[u8], from: usize)
+fn read_certificate<W: Write, E: Write>(
+    printer: &mut Printer<W, E>,
+    name: &[u8],
+    line: &[u8],
+    from: usize,
+)
     requires { from ≤ length line.now }
 {
     let mut room = record_room();
@@ -70,10 +78,15 @@ fn read_certificate(name: &[u8], line: &[u8], from: usize)
         m.size as usize,
         cases_lines::places_of(&mut values, list),
     );
-    cases_telling::read(name, r);
+    printer.read(name, r);
 }
 
-fn write_record(name: &[u8], line: &[u8], from: usize)
+fn write_record<W: Write, E: Write>(
+    printer: &mut Printer<W, E>,
+    name: &[u8],
+    line: &[u8],
+    from: usize,
+)
     requires { from ≤ length line.now }
 {
     let mut room = record_room();
@@ -91,10 +104,10 @@ fn write_record(name: &[u8], line: &[u8], from: usize)
         cases_lines::values_of(&values, list),
         cases_lines::room_of(&mut room, size),
     );
-    cases_telling::written(name, w);
+    printer.written(name, w);
 }
 
-fn to_short(name: &[u8], line: &[u8], from: usize)
+fn to_short<W: Write, E: Write>(printer: &mut Printer<W, E>, name: &[u8], line: &[u8], from: usize)
     requires { from ≤ length line.now }
 {
     let mut ranking = record_room();
@@ -111,10 +124,15 @@ fn to_short(name: &[u8], line: &[u8], from: usize)
         m.size as usize,
         cases_lines::room_of(&mut room, size),
     );
-    cases_telling::written(name, w);
+    printer.written(name, w);
 }
 
-fn from_short(name: &[u8], line: &[u8], from: usize)
+fn from_short<W: Write, E: Write>(
+    printer: &mut Printer<W, E>,
+    name: &[u8],
+    line: &[u8],
+    from: usize,
+)
     requires { from ≤ length line.now }
 {
     let mut ranking = record_room();
@@ -131,10 +149,10 @@ fn from_short(name: &[u8], line: &[u8], from: usize)
         m.size as usize,
         cases_lines::room_of(&mut room, size),
     );
-    cases_telling::written(name, w);
+    printer.written(name, w);
 }
 
-fn judge(name: &[u8], line: &[u8], from: usize)
+fn judge<W: Write, E: Write>(printer: &mut Printer<W, E>, name: &[u8], line: &[u8], from: usize)
     requires { from ≤ length line.now }
 {
     let mut looped = record_room();
@@ -151,11 +169,12 @@ fn judge(name: &[u8], line: &[u8], from: usize)
         cases_lines::bytes_of(&certificate, b),
         cases_lines::places_of(&mut rank, list),
     );
-    cases_telling::judged(name, v, cases_lines::values_of(&rank, list));
+    printer.judged(name, v, cases_lines::values_of(&rank, list));
 }
 
 // Judges a batch, and prints what it leaves in what is lent to it.
-fn tell_batch(
+fn tell_batch<W: Write, E: Write>(
+    printer: &mut Printer<W, E>,
     name: &[u8],
     looped: &[u8],
     records: &[u8],
@@ -163,10 +182,10 @@ fn tell_batch(
     ranks: &mut [i64],
 ) {
     let said = judge_rows::judge_rows(looped, records, rows, ranks);
-    cases_telling::batched(name, said, rows, ranks);
+    printer.batched(name, said, rows, ranks);
 }
 
-fn judge_all(name: &[u8], line: &[u8], from: usize)
+fn judge_all<W: Write, E: Write>(printer: &mut Printer<W, E>, name: &[u8], line: &[u8], from: usize)
     requires { from ≤ length line.now }
 {
     let mut looped = record_room();
@@ -182,6 +201,7 @@ fn judge_all(name: &[u8], line: &[u8], from: usize)
     let row = cases_lines::places(places.size, 40);
     let list = cases_lines::places(given.size, 128);
     tell_batch(
+        printer,
         name,
         cases_lines::bytes_of(&looped, a),
         cases_lines::bytes_of(&records, b),
@@ -190,7 +210,7 @@ fn judge_all(name: &[u8], line: &[u8], from: usize)
     );
 }
 
-fn bound(name: &[u8], line: &[u8], from: usize)
+fn bound<W: Write, E: Write>(printer: &mut Printer<W, E>, name: &[u8], line: &[u8], from: usize)
     requires { from ≤ length line.now }
 {
     let mut looped = record_room();
@@ -206,54 +226,57 @@ fn bound(name: &[u8], line: &[u8], from: usize)
         cases_lines::bytes_of(&certificate, b),
         cases_lines::values_of(&state, list),
     );
-    cases_telling::bounded(name, answer);
+    printer.bounded(name, answer);
 }
 
 // ---- the text
 
 // A case: the call is known by its first letter.
-fn run_case(name: &[u8], line: &[u8], from: usize)
+fn run_case<W: Write, E: Write>(printer: &mut Printer<W, E>, name: &[u8], line: &[u8], from: usize)
     requires { from < length line.now }
 {
     let at = cases_lines::past(line, cases_lines::find(line, from, 32));
     match line[from] {
-        108 => read_loop(name, line, at),
-        99 => read_certificate(name, line, at),
-        119 => write_record(name, line, at),
-        116 => to_short(name, line, at),
-        102 => from_short(name, line, at),
-        106 => judge(name, line, at),
-        97 => judge_all(name, line, at),
-        98 => bound(name, line, at),
-        _ => cases_telling::word(b"no such call\n"),
+        108 => read_loop(printer, name, line, at),
+        99 => read_certificate(printer, name, line, at),
+        119 => write_record(printer, name, line, at),
+        116 => to_short(printer, name, line, at),
+        102 => from_short(printer, name, line, at),
+        106 => judge(printer, name, line, at),
+        97 => judge_all(printer, name, line, at),
+        98 => bound(printer, name, line, at),
+        _ => printer.word(b"no such call\n"),
     }
 }
 
 // A line: a comment, or a name up to its first colon and a case.
-fn run_line(line: &[u8]) {
+fn run_line<W: Write, E: Write>(printer: &mut Printer<W, E>, line: &[u8]) {
     let end = cases_lines::past(line, cases_lines::find(line, 0, 58));
     let from = cases_lines::past(line, end);
     if from < line.len() {
         if line[0] != 35 {
-            run_case(cases_lines::bytes_of(line, end), line, from);
+            run_case(printer, cases_lines::bytes_of(line, end), line, from);
         }
     }
 }
 
-fn run_text(text: &[u8]) {
+fn run_text<W: Write, E: Write>(printer: &mut Printer<W, E>, text: &[u8]) {
     let mut from = 0;
     while from < text.len() {
         let end = cases_lines::find(text, from, 10);
-        run_line(&text[from..end]);
+        run_line(printer, &text[from..end]);
         from = end + 1;
     }
 }
 
-fn main() {
+fn main(rt: HostRuntime) {
+    let mut errors = rt.stderr();
     let mut room = text_room();
-    let input = streams::read_input(&mut room, b"cases: cannot read standard input");
+    let what = b"cases: cannot read standard input";
+    let input = streams::read_input(&mut rt.stdin(), &mut errors, &mut room, what);
     if input.failed {
         return;
     }
-    run_text(cases_lines::bytes_of(&room, input.size));
+    let mut printer = Printer::new(rt.stdout(), errors);
+    run_text(&mut printer, cases_lines::bytes_of(&room, input.size));
 }
