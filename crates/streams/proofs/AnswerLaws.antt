@@ -1,13 +1,15 @@
 -- The laws of steps, test by test, and of bytes that several calls move. Assumes nothing.
-use Rattle.std.proofs.Common.{◌≡◌, ℕ, zero, suc, ◌+◌, ◌-◌, ◌≤◌, min, Bool, true, false, cond, List, [], ◌++◌, length, take, drop, Result, Ok, Err, None, Some, Option, refl, sym, ap, ◌∙◌, subst, take-take, drop_at, take-append-drop, append-nil}
+use Rattle.std.proofs.Common.{◌≡◌, ℕ, zero, suc, ◌+◌, ◌-◌, ◌≤◌, ⊎_elim, min, Bool, true, false, true≢false, cond, not, ◌&&◌, ◌||◌, eqb, ℤ, pos, negsuc, arith, List, [], ◌∷◌, ◌++◌, length, take, drop, Result, Ok, Err, None, Some, Option, refl, sym, ap, ◌∙◌, subst, take-take, drop_at, take-append-drop, append-nil}
+use Rattle.std.proofs.lemmas.Bool.{ne_eqb, lt-leb}
+use Rattle.std.proofs.lemmas.Bool.Decides.{eqb_tells}
 use Rattle.std.proofs.lemmas.List.{drop-take, take_min, take_rest, take-append-le}
 use Rattle.std.proofs.KnownBytes.{Consumes-trans, Appends-trans}
 use Rattle.std.specs.Io.KnownBytes.{Keeps, Appends, Consumes, ReadConsumes, WriteAppends}
 use Rattle.std.specs.declared.io.Error.{Error}
 use Rattle.std.specs.declared.io.ErrorKind.{ErrorKind}
 use Rattle.std.specs.declared.io.ErrorKind.TheVariants.{Interrupted, WouldBlock}
-use Rattle.std.specs.IoError.{error_kind}
-use Rattle.streams.specs.SystemAnswers.{passes, step_of, StepConsumes, StepAppends}
+use Rattle.std.specs.IoError.{error_kind, os_error_kind, os_error_kinds, kind_in}
+use Rattle.streams.specs.SystemAnswers.{passes, passes_number, step_of, StepConsumes, StepAppends}
 use Rattle.streams.specs.declared.Step.TheVariants.{Moved, Nothing, Again, Failed}
 
 -- ---- the errors that pass
@@ -17,6 +19,50 @@ unfolding passes
 passes-not Interrupted blocks interrupted = absurd (interrupted refl)
 passes-not WouldBlock blocks interrupted = absurd (blocks refl)
 passes-not _ blocks interrupted = refl
+
+-- the rows of a table in which only 4 and 11 have a kind that passes
+two_pass : List (ℕ × ErrorKind) → Bool
+two_pass [] = true
+two_pass (row ∷ rows) = (eqb row.0 4 || eqb row.0 11 || not (passes row.1)) && two_pass rows
+
+second : (a b : Bool) → (a && b) ≡ true → b ≡ true
+second true b both = both
+second false b both = absurd (true≢false (sym both))
+
+not_first : (a b : Bool) → (not a && b) ≡ true → a ≡ false
+not_first true b both = absurd (true≢false (sym both))
+not_first false b both = refl
+
+-- the two numbers aside, such a table gives no kind that passes
+others_not : (rows : List (ℕ × ErrorKind)) (number : ℕ) → two_pass rows ≡ true → (number ≡ 4 → ⊥) → (number ≡ 11 → ⊥) → passes (kind_in rows number) ≡ false
+unfolding passes two_pass
+others_not [] number only four eleven = refl
+others_not (row ∷ rows) number only four eleven =
+    ⊎_elim (λ here. rw here.0 (listed (λ e. four (here.1 ∙ e)) (λ e. eleven (here.1 ∙ e)))) (λ below. rw below.0 (others_not rows number (second _ _ only) four eleven))
+    (eqb_tells number row.0)
+  where
+    listed : (row.0 ≡ 4 → ⊥) → (row.0 ≡ 11 → ⊥) → passes row.1 ≡ false
+    listed not_four not_eleven = not_first (passes row.1) (two_pass rows) (rw (ne_eqb row.0 4 not_four, ne_eqb row.0 11 not_eleven) at only)
+
+listed_kind : (number : ℕ) → os_error_kind (pos number) ≡ kind_in os_error_kinds number
+unfolding os_error_kind
+listed_kind number = rw (lt-leb (suc number) 0 (omega arith)) refl
+
+other_kind : (number : ℕ) → (number ≡ 4 → ⊥) → (number ≡ 11 → ⊥) → passes (os_error_kind (pos number)) ≡ false
+unfolding passes two_pass
+other_kind number four eleven = ap passes (listed_kind number) ∙ others_not os_error_kinds number refl four eleven
+
+other_number : (number : ℕ) → eqb number 4 ≡ false → eqb number 11 ≡ false → false ≡ passes_number (pos number)
+unfolding passes_number
+other_number number four eleven = rw (four, eleven) refl
+
+pub passes_by_number : (error : ℤ) → passes (os_error_kind error) ≡ passes_number error
+unfolding passes passes_number os_error_kind
+passes_by_number (pos error) =
+    ⊎_elim (λ four. rw four.1 refl)
+    (λ four. ⊎_elim (λ eleven. rw eleven.1 refl) (λ eleven. other_kind error four.1 eleven.1 ∙ other_number error four.0 eleven.0) (eqb_tells error 11))
+    (eqb_tells error 4)
+passes_by_number (negsuc error) = refl
 
 -- ---- the answers, test by test
 
@@ -36,6 +82,18 @@ step-again error most pass = ap (λ b. cond b Again (Failed error)) pass
 pub step-failed : (error : Error) (most : ℕ) → false ≡ passes (error_kind error) → Failed error ≡ step_of (Err error) most
 unfolding step_of
 step-failed error most pass = ap (λ b. cond b Again (Failed error)) pass
+
+-- single answers: the end, an interrupted call, a moment's emptiness, and a failure (EIO is 5)
+pub answers_told : (interrupted blocked broken : Error) → error_kind interrupted ≡ os_error_kind (pos 4) → error_kind blocked ≡ os_error_kind (pos 11)
+    → error_kind broken ≡ os_error_kind (pos 5)
+    → (step_of (Ok 0) 8 ≡ Nothing) × (step_of (Err interrupted) 8 ≡ Again) × (step_of (Err blocked) 8 ≡ Again) × (step_of (Err broken) 8 ≡ Failed broken)
+unfolding passes_number
+answers_told interrupted blocked broken four eleven five = (
+  sym (step-nothing 0 8 refl),
+  sym (step-again interrupted 8 (sym (ap passes four ∙ passes_by_number (pos 4)))),
+  sym (step-again blocked 8 (sym (ap passes eleven ∙ passes_by_number (pos 11)))),
+  sym (step-failed broken 8 (sym (ap passes five ∙ passes_by_number (pos 5)))),
+)
 
 -- ---- what a read or a write did to known bytes
 

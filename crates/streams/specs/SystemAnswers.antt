@@ -1,6 +1,6 @@
 -- What the answer of a read or a write means. Only 0 is the end of an input, and no failure is: a call that was interrupted or that
 -- would have had to wait is tried again, and every other failure is told.
-use Rattle.std.specs.Prelude.{ℕ, zero, suc, ◌≤◌, ◌≡◌, ◌<◌, min, Bool, true, false, cond, List, length, take, ⊤, Result, Ok, Err}
+use Rattle.std.specs.Prelude.{ℕ, zero, suc, ◌≤◌, ◌≡◌, ◌<◌, min, Bool, true, false, cond, ◌||◌, eqb, ℤ, pos, negsuc, List, length, take, ⊤, Result, Ok, Err}
 use Rattle.std.specs.IoError.{error_kind}
 use Rattle.std.specs.Io.KnownBytes.{Keeps, Appends, Consumes, IsAtEnd}
 use Rattle.std.specs.declared.option.Option.{Option}
@@ -15,11 +15,16 @@ use Rattle.streams.specs.declared.Step.TheVariants.{Moved, Nothing, Again, Faile
 abbrev pub IsPrefixLen : ℕ → List ℕ → Type 0
 IsPrefixLen n xs = (n ≤ length xs) × (n ≡ length (take n xs))
 
--- the errors that pass: EINTR is `Interrupted`, EAGAIN is `WouldBlock`
+-- the errors that pass
 unfoldable pub passes : ErrorKind → Bool
 passes Interrupted = true
 passes WouldBlock = true
 passes _ = false
+
+-- they are those of two of the system's numbers (`passes_by_number` in proofs/AnswerLaws.antt): EINTR is 4, EAGAIN is 11
+unfoldable pub passes_number : ℤ → Bool
+passes_number (pos error) = eqb error 4 || eqb error 11
+passes_number (negsuc error) = false
 
 -- the answer of a call on a buffer of `most` bytes
 unfoldable pub step_of : Result ℕ Error → ℕ → Step

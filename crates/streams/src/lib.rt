@@ -5,6 +5,9 @@
 // the contracts say which bytes were moved.
 #![tactic(auto)]
 
+#[cfg(test)]
+mod tests;
+
 ghost use Rattle.std.specs.Prelude.{◌≤◌, ◌<◌, ◌≡◌, true, false, length, take, drop};
 ghost use Rattle.std.specs.Io.KnownBytes.{Appends, Consumes, IsAtEnd};
 ghost use Rattle.streams.specs.SystemAnswers.{passes, step_of, IsPrefixLen, Within, Tells, StepConsumes, StepAppends};
