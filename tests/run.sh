@@ -23,7 +23,7 @@ root=$(cd "$(dirname "$0")/.." && pwd) || exit 1
 folder=${1:-$root/target/staticlib}
 if [ ! -f "$folder/librip.a" ]; then
   echo "failed archive"
-  echo "$folder/librip.a is not there: rt staticlib rip makes it"
+  echo "$folder/librip.a is not there: tools/build rip makes it"
   exit 1
 fi
 CUSHIEDOO_LIB_DIR=$(cd "$folder" && pwd) || exit 1

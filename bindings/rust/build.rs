@@ -1,4 +1,4 @@
-//! Links the archive `librip.a`, which `rt staticlib rip` makes in the repository's `target/staticlib`. Another folder
+//! Links the archive `librip.a`, which `tools/build rip` makes in the repository's `target/staticlib`. Another folder
 //! is named by the environment variable `CUSHIEDOO_LIB_DIR`; on a machine that is not x86-64, one that `x86/bridge` made.
 
 use std::path::PathBuf;
@@ -14,7 +14,7 @@ fn main() {
     println!("cargo:rerun-if-changed={}", archive.display());
     if !archive.is_file() {
         eprintln!(
-            "{} is not there: run `rt staticlib rip` first, or name its folder in CUSHIEDOO_LIB_DIR",
+            "{} is not there: run `tools/build rip` first, or name its folder in CUSHIEDOO_LIB_DIR",
             archive.display()
         );
         process::exit(1);

@@ -4,7 +4,7 @@
  * Loop P over (p, q) has the rows -p + q <= -2; -p + p' <= -1; q - q' <= 0. The first certificate is the ranking with
  * Y = (1, 0, 0) and Z = (0, 1, 1); in the second Z leaves out the last row. The four are these two, the first with all
  * multipliers doubled, and an exclusion for a loop over one variable, which P is not. The records are written by the
- * library, so no byte is spelt out here. From the repository's root, once `rt staticlib rip` has made the archive:
+ * library, so no byte is spelt out here. From the repository's root, once `tools/build rip` has made the archive:
  *
  *     cc -std=c99 -Wall -Wextra -Werror -Iinclude examples/c/judge.c target/staticlib/librip.a -o judge
  *     ./judge

@@ -120,7 +120,7 @@ def main(words):
     names, rows = loop_of(Path(words[0]).read_bytes().decode("utf-8", "replace"))
     program = ROOT / "target/bin/sheet"
     if not program.is_file():
-        raise Wrong("target/bin/sheet is not there: rt check sheet makes it")
+        raise Wrong("target/bin/sheet is not there: tools/build sheet makes it")
     try:
         import z3
     except ImportError:
