@@ -95,7 +95,7 @@ fn run<R: Read, W: Write, E: Write>(input: &mut R, output: &mut W, errors: &mut 
 }
 
 // Whether a word stands behind the program's name.
-fn has_argument(rt: &impl Env) -> bool {
+fn has_argument(rt: &HostRuntime) -> bool {
     let mut word = [0u8; 1];
     !matches!(rt.arg(1, &mut word), Err(FillError::NotPresent))
 }
