@@ -427,7 +427,7 @@ def line(width, p, q, told):
 
 def table(cases):
     for case in cases:
-        yield f"{case}-exchanges ="
+        yield f"{case.replace('-', '_')}_exchanges ="
         accepted = answer(*CASES[case][:2])
         assert accepted[0] != "refused", (case, accepted)
         lines = []
@@ -446,7 +446,7 @@ def check():
         path = os.path.join(os.path.dirname(__file__), "..", "crates", crate, "specs", "Exchanged.antt")
         with open(path, encoding="utf-8") as f:
             have = f.read().splitlines()
-        have = [l for l in have if " bytes-at " in l or l.endswith("-exchanges =")]
+        have = [l for l in have if " bytes-at " in l or l.endswith("_exchanges =")]
         want = [l for l in table(cases) if l.strip() != "∷ []"]
         for a, b in itertools.zip_longest(have, want):
             if a != b:
