@@ -24,7 +24,6 @@ use Rattle.judge_ranking.specs.RankedBy.{ranked_of, RankedBy}
 use Rattle.judge_ranking.specs.declared.Ranked.{Ranked}
 use Rattle.judge.specs.SoundPairs.{first_row, LoopSound}
 use Rattle.judge_bound.specs.BoundShown.{no_bound, StateFits}
-use Rattle.judge_bound.proofs.BoundingWays as Rows
 use Rattle.judge_settling.specs.SettlingBy.{SettlingBy}
 use Rattle.judge_settling.specs.SettlingHeld.{settling_held}
 use Rattle.judge_settling.proofs.SettlingContentsHeld.{variables_are, settling_held_is, settling_told}

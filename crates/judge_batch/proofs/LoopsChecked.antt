@@ -7,11 +7,11 @@ use native.Mathlib.Omega.{arith}
 use lib.ListN.{length, drop}
 use Rattle.endian.specs.Numbers.{little_at}
 use Rattle.record.specs.Layouts.{is_loop}
-use Rattle.record.specs.Readers.{framing, stated_length, kind, counts_read, sound, loop_reader}
+use Rattle.record.specs.Readers.{framing, stated_length, counts_read, sound, loop_reader}
 use Rattle.record_check.specs.Checks.{checked, checks}
 use Rattle.record_check.specs.declared.Checked.{Checked}
 use Rattle.record_paths.specs.PathFields.{bytes_alone, is_kind, holds_counts, is_long, fields_fit}
-use Rattle.record_paths.specs.PathLoops.{variables_in, paths_in, sound_paths}
+use Rattle.record_paths.specs.PathLoops.{variables_in, sound_paths}
 use Rattle.record_paths.proofs.PathsSound.{paths_sound}
 use Rattle.refusal.specs.Faults.{fault_of}
 use Rattle.refusal.specs.Tests.{Told, done, refused, first, number, place}
@@ -20,7 +20,7 @@ use Rattle.refusal.proofs.FaultLaws.{Named}
 use Rattle.refusal.proofs.TestLaws.{either, zero_done, first_told}
 use Rattle.verdict.specs.Pairs.{loop_record}
 use Rattle.verdict_paths.specs.JudgingByLoop.{of_paths}
-use Rattle.judge.specs.SoundPairs.{first_row, LoopSound}
+use Rattle.judge.specs.SoundPairs.{LoopSound}
 use Rattle.judge.proofs.SoundSizes.{loop_kind, n_few, rows_in}
 use Rattle.judge.proofs.Framing.{loop_alike}
 use Rattle.verdict_batch.specs.Batches.{loop_told, variables}

@@ -19,7 +19,6 @@ use Rattle.verdict.proofs.StageLaws.{stage_done, stage_refused, agrees_said}
 use Rattle.verdict_paths.specs.PathContents.{branches_in, lexicographic_in}
 use Rattle.verdict_paths.specs.PathJudging.{PathPair, path_judging, path_judges}
 use Rattle.verdict_paths.proofs.PathDemands.{said_refused}
-use Rattle.judge.proofs.JudgingWays as Rows
 
 -- ---- a loop of several paths
 

@@ -20,7 +20,6 @@ use Rattle.judge_conditions.specs.LoopHeld.{loop_held}
 use Rattle.judge_ranking.specs.RankedBy.{ranked_of, rank_put, RankedBy}
 use Rattle.judge_ranking.specs.declared.Ranked.{Ranked}
 use Rattle.judge.specs.SoundPairs.{first_row, LoopSound}
-use Rattle.judge.proofs.JudgingWays as Rows
 use Rattle.judge_settling.specs.SettlingBy.{SettlingBy}
 use Rattle.judge_settling.specs.SettlingHeld.{settling_held}
 use Rattle.judge_settling.proofs.SettlingContentsHeld.{variables_are, settling_told}

@@ -1,7 +1,7 @@
 -- `judge_all::judge_all` meets its contract: each turn goes from the state after i records to that after i + 1, and the last leaves what the batch promises.
-use Rattle.std.proofs.Common.{◌≡◌, refl, sym, ap, ◌∙◌, ◌<◌, arith, length, length-set}
+use Rattle.std.proofs.Common.{◌≡◌, refl, ap, ◌∙◌, arith, length-set}
 use Rattle.verdict_batch.specs.Batches.{ranks_in_turn}
-use Rattle.verdict_batch.proofs.Filling.{row_at, ranks_at, State, Asked, asked, ends_within, next_state}
+use Rattle.verdict_batch.proofs.Filling.{row_at, ranks_at, asked, ends_within, next_state}
 use Rattle.judge_all.proofs.Turns.{as_it_is, row_last, ranks_last}
 use Rattle.judge_all.proofs.judge_all.Goals as goal
 

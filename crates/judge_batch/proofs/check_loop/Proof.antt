@@ -1,5 +1,5 @@
 -- `judge_batch::check_loop` meets its contract: the frame is one for both kinds, and the kind leads to its check. Assumes nothing.
-use mathlib.Core.Path.{◌≡◌, sym, ap, ◌∙◌}
+use mathlib.Core.Path.{sym, ap, ◌∙◌}
 use borrow.Author.Rules.{rules}
 use Rattle.record_check.specs.Checks.{Framed}
 use Rattle.refusal.specs.Faults.{fault_of}

@@ -1,15 +1,14 @@
 -- `judge_batch::enter` meets its contract: the loop, then the three tests of room, as the batch's order asks them. Assumes nothing.
 use mathlib.Core.Path.{◌≡◌, ap, ◌∙◌}
-use Prim.Native.Nat.{ℕ, ◌*◌, ◌≤◌}
+use Prim.Native.Nat.{◌*◌, ◌≤◌}
 use native.Mathlib.Nat.{mul-le-mul}
 use native.Mathlib.Omega.{arith}
-use lib.ListN.{length}
 use borrow.Author.Rules.{rules}
 use Rattle.refusal.specs.Tests.{done}
 use Rattle.refusal.proofs.FaultLaws.{fault_refused, fault_done}
 use Rattle.verdict_batch.specs.Batches.{Batch, batch_of, loop_told, variables, count, numbers_needed}
 use Rattle.judge_batch.proofs.BatchWays.{at_loop, too_many, few_places, few_numbers, all_room}
-use Rattle.judge_batch.proofs.LoopsChecked.{loop_named, loop_long, few_variables}
+use Rattle.judge_batch.proofs.LoopsChecked.{loop_named, loop_long}
 use Rattle.judge_batch.proofs.enter.Statement.{statement}
 use Rattle.judge_batch.proofs.enter.Tie as tie
 

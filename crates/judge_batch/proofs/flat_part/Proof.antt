@@ -1,9 +1,9 @@
 -- `judge_batch::flat_part` meets its contract: the loop's kind leads to its judge, with stretch i as its rank list. Assumes nothing.
-use mathlib.Core.Path.{◌≡◌, refl, sym, ap, ◌∙◌}
-use Prim.Native.Nat.{ℕ, ◌+◌, ◌*◌, ◌-◌, ◌≤◌}
+use mathlib.Core.Path.{◌≡◌, refl, sym, ◌∙◌}
+use Prim.Native.Nat.{◌+◌, ◌*◌, ◌≤◌}
 use mathlib.Core.Bool.{true}
 use native.Mathlib.Omega.{arith}
-use lib.ListN.{length, take, drop}
+use lib.ListN.{length}
 use borrow.Author.Rules.{rules}
 use Rattle.record.specs.Readers.{sound}
 use Rattle.refusal.specs.Tests.{done, first}

@@ -1,12 +1,10 @@
 -- `judge_rows::judge_rows` meets its contract: after i records, the next starts at its place, i rows are filled and i stretches judged. The measure is
 -- how many records are left. Assumes nothing.
-use mathlib.Core.Path.{◌≡◌, refl, sym, ap, ◌∙◌}
-use Prim.Native.Nat.{ℕ, ◌+◌, ◌-◌, ◌≤◌, ◌<◌}
-use mathlib.Core.List.{List}
+use mathlib.Core.Path.{◌≡◌, refl, ap, ◌∙◌}
+use Prim.Native.Nat.{◌-◌, ◌≤◌, ◌<◌}
 use native.Mathlib.Omega.{arith}
 use lib.ListN.{length, length-set}
 use borrow.Author.Rules.{rules}
-use Rattle.record_parting.proofs.PartingPlaces.{place_of}
 use Rattle.verdict_batch.specs.Batches.{ranks_in_turn, ranks_after}
 use Rattle.verdict_batch.proofs.Filling.{row_at, ranks_at, State, Asked, asked, ends_within, next_state, all_filled}
 use Rattle.judge_rows.specs.VerdictRows.{row_of, verdict_row, rows_after}

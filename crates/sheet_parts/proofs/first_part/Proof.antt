@@ -11,7 +11,7 @@ use Rattle.refusal.specs.Tests.{first}
 use Rattle.verdict.specs.Pairs.{loop_record}
 use Rattle.judge.specs.SoundPairs.{LoopSound}
 use Rattle.judge.proofs.Entered.{loop_refused, loop_sound}
-use Rattle.record_parting.specs.Parting.{taken, first_record}
+use Rattle.record_parting.specs.Parting.{first_record}
 use Rattle.sheet_text.specs.Sheets.{judged, sheet_text}
 use Rattle.record_parting.proofs.PartingLaws.{taken_within, first_length}
 use Rattle.sheet_text.proofs.TextLaws.{text_too_long_line}
