@@ -1,5 +1,5 @@
 // Standard input and standard output, for programs: an input is read to its end, a text is written to its last byte, and what fails is told by
-// a line on standard error. A program has no exit status, so that line is how its caller knows.
+// a line on standard error. The programs end with status 0 either way, so that line is how a caller knows.
 //
 // The streams are a caller's: a reader, a writer, and a writer for the line that tells a failure. Of a reader and a writer whose bytes are known,
 // the contracts say which bytes were moved.
