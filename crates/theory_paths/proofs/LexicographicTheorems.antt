@@ -24,6 +24,7 @@ use Rattle.theory_paths.specs.Lexicographics.{Component, Lexicographic, componen
 use Rattle.theory_paths.specs.Lexicographics.{LexicographicHolds, NonNegativePart, WellFormed, Ends}
 use Rattle.theory_paths.specs.OnePath.{alone, one_component, as_ranking, AsRanking}
 use Rattle.theory_paths.proofs.FallingEnds.{falling_ends}
+use Rattle.theory_paths.proofs.StepNumbers.{held_above, fallen_by, no_higher}
 
 -- what holds of each of a list and of what stands for those past its end holds at every place
 each_anywhere : {B : Type 0} (P : B → Type 0) (bs : List B) (i : ℕ) (d : B) → Each P bs → P d → P (get_or bs i d)
@@ -43,32 +44,23 @@ module _ (loop : Branches) (c : Lexicographic) (nonneg : Each NonNegativePart c.
   -- δ0 <= r·x
   pub own_bounded : (own c j).δ0 ≤ℤ dot (own c j).r x
   own_bounded =
-      plain (dot (own c j).r x) (dot (own c j).r x') (own c j).δ0
+      held_above (dot (own c j).r x) (dot (own c j).r x') (own c j).δ0
       (weighed_step loop.variables (bounding loop c j) 1 x x' (part_nonneg c nonneg j).bounded (holds j there).bounded t)
-    where
-      plain : (a a' d : ℤ) → (negsuc 0 *ℤ a +ℤ pos 0 *ℤ a') ≤ℤ (pos 1 *ℤ neg_ℤ d) → d ≤ℤ a
-      plain a a' d h = solve_le (v d) (v a) (omega (arith, le_fact (v (negsuc 0) ⊗ v a ⊕ v (pos 0) ⊗ v a') (v (pos 1) ⊗ neg (v d)) h))
 
   -- δ <= r·x - r·x'
   pub own_falls : (own c j).δ ≤ℤ (dot (own c j).r x -ℤ dot (own c j).r x')
   own_falls =
-      plain (dot (own c j).r x) (dot (own c j).r x') (own c j).δ
+      fallen_by (dot (own c j).r x) (dot (own c j).r x') (own c j).δ
       (weighed_step loop.variables (falling loop c j) 1 x x' (part_nonneg c nonneg j).ranking (holds j there).ranking t)
-    where
-      plain : (a a' d : ℤ) → (negsuc 0 *ℤ a +ℤ pos 1 *ℤ a') ≤ℤ (pos 1 *ℤ neg_ℤ d) → d ≤ℤ (a -ℤ a')
-      plain a a' d h = solve_le (v d) (v a ⊝ v a') (omega (arith, le_fact (v (negsuc 0) ⊗ v a ⊕ v (pos 1) ⊗ v a') (v (pos 1) ⊗ neg (v d)) h))
 
   -- r·x' <= r·x for every earlier component
   pub earlier_stay : (i : ℕ) → i < (part_at c j).component → dot (component_at c i).r x' ≤ℤ dot (component_at c i).r x
   unfolding Each
   earlier_stay i earlier =
-      plain (dot (component_at c i).r x) (dot (component_at c i).r x')
+      no_higher (dot (component_at c i).r x) (dot (component_at c i).r x')
       (weighed_step loop.variables (not_rising loop c j i) 1 x x'
       (each_anywhere (Each NonNeg) (part_at c j).unaffecting i [] (part_nonneg c nonneg j).unaffecting tt)
       ((holds j there).unaffecting i earlier) t)
-    where
-      plain : (a a' : ℤ) → (negsuc 0 *ℤ a +ℤ pos 1 *ℤ a') ≤ℤ (pos 1 *ℤ pos 0) → a' ≤ℤ a
-      plain a a' h = solve_le (v a') (v a) (omega (arith, le_fact (v (negsuc 0) ⊗ v a ⊕ v (pos 1) ⊗ v a') (v (pos 1) ⊗ v (pos 0)) h))
 
 -- ---- the promise
 

@@ -2,6 +2,8 @@
 pub mod PathLaws
 -- numbers that fall in turn come to an end
 pub mod FallingEnds
+-- what the conditions of a path say of whole numbers
+pub mod StepNumbers
 -- the promise of a lexicographic argument, and what it is for one path
 pub mod LexicographicTheorems
 -- the tests and the conditions say the same, and tell exactly the first that fails

@@ -101,8 +101,8 @@ module _ (loop : Branches) (c : Lexicographic) where
       (both (one (weighs_decides n (bounding loop c j)).0 (weighs_decides n (bounding loop c j)).1)
       (both (one (weighs_decides n (falling loop c j)).0 (weighs_decides n (falling loop c j)).1)
       (one
-      (λ t i below. (weighs_decides n (not_rising loop c j i)).0 (every_throughout _ _ t i below))
-      (λ h. every_holds _ _ (λ i below. (weighs_decides n (not_rising loop c j i)).1 (h i below))))))
+      (λ t i below. (weighs_decides n (not_rising loop c j i)).0 (every_throughout _ _ t i (omega (arith, below))))
+      (λ h. every_holds _ _ (λ i below. (weighs_decides n (not_rising loop c j i)).1 (h i (omega (arith, below))))))))
       (λ h. record { bounded = h.0; ranking = h.1.0; unaffecting = h.1.1 })
       (λ h. (h.bounded, (h.ranking, h.unaffecting)))
       (λ k p f. f)

@@ -1,5 +1,7 @@
 -- the rise, in 02's words and as weighted rows
 pub mod SettlingParts
+-- what the rise and the added row say of whole numbers
+pub mod SettlingNumbers
 -- the tests and the conditions say the same, and tell exactly the first that fails
 pub mod SettlingDecisions
 -- what is told, condition after condition

@@ -5,13 +5,13 @@ use Prim.Native.Nat.{ℕ, zero, suc, ◌≤◌, zero-le}
 use mathlib.Core.Bool.{Bool, true, false, cond}
 use mathlib.Core.List.{List, [], ◌∷◌}
 use native.Mathlib.Omega.{arith}
-use lib.IntN.{ℤ, pos, nat_abs, neg_ℤ, ◌+ℤ◌, ◌-ℤ◌, ◌*ℤ◌, +ℤ_idr}
+use lib.IntN.{ℤ, pos, nat_abs, ◌+ℤ◌, ◌-ℤ◌, +ℤ_idr}
 use lib.Signed.{lt_z, ◌≤ℤ◌}
 use Rattle.refusal.proofs.TestLaws.{either}
 use Rattle.whole.specs.Sums.{dot}
 use Rattle.whole.proofs.Compare.{le_false, false_lt}
 use Rattle.whole.proofs.Ring.{pos_mono, mul_cancel}
-use Rattle.whole.proofs.Solve.{v, ◌⊕◌, ◌⊝◌, ◌⊗◌, neg, solve_le, le_fact, abs_fact}
+use Rattle.whole.proofs.Solve.{v, ◌⊕◌, ◌⊝◌, solve_le, le_fact, abs_fact}
 use Rattle.theory.specs.Loops.{Loop, Meets, Step, Run, Endless}
 use Rattle.theory.specs.Rankings.{rank, start, fall, Bounds}
 use Rattle.theory.proofs.AddedRow.{meets_added, keeps_all, kept_bounds_runs}
@@ -19,6 +19,7 @@ use Rattle.theory.proofs.Steps.{weighed_step}
 use Rattle.theory_settling.specs.Settlings.{Settling, NonNegativeSettling, SettlingHolds, SettlingPromise, Settled}
 use Rattle.theory_settling.specs.Settlings.{added, longer, rising, unsettled, unsettled_steps, settling_bound}
 use Rattle.theory_settling.proofs.SettlingParts.{rise_weighs}
+use Rattle.theory_settling.proofs.SettlingNumbers.{risen_by_one, past_threshold}
 
 -- the settling bound is enough: t <= g·x + settling_bound
 within_reach : (c : Settling) (x : List ℤ) → c.t ≤ℤ (dot c.g x +ℤ pos (settling_bound c x))
@@ -44,12 +45,8 @@ module _ (loop : Loop) (c : Settling) (nonneg : NonNegativeSettling c) (k_positi
   pub settling_rises : (x x' : List ℤ) → Step loop 1 x x' → (dot c.g x +ℤ pos 1) ≤ℤ dot c.g x'
   settling_rises x x' t =
       mul_cancel (pos c.k) (pos_mono k_positive)
-      (together (pos c.k) (dot c.g x) (dot c.g x')
+      (risen_by_one (pos c.k) (dot c.g x) (dot c.g x')
       (weighed_step loop.variables (rising loop c) 1 x x' nonneg.0 (rise_weighs loop c holds) t))
-    where
-      together : (k a a' : ℤ) → (k *ℤ a +ℤ neg_ℤ k *ℤ a') ≤ℤ (pos 1 *ℤ neg_ℤ k) → (k *ℤ (a +ℤ pos 1)) ≤ℤ (k *ℤ a')
-      together k a a' h =
-          solve_le (v k ⊗ (v a ⊕ v (pos 1))) (v k ⊗ v a') (omega (arith, le_fact (v k ⊗ v a ⊕ neg (v k) ⊗ v a') (v (pos 1) ⊗ neg (v k)) h))
 
   -- what is in reach of n + 1 is in reach of n after a step, and what has settled stays so
   nearer : (n : ℕ) (x x' : List ℤ) → Step loop 1 x x' → c.t ≤ℤ (dot c.g x +ℤ pos (suc n)) → c.t ≤ℤ (dot c.g x' +ℤ pos n)
@@ -82,10 +79,7 @@ module _ (loop : Loop) (c : Settling) (nonneg : NonNegativeSettling c) (k_positi
   -- ---- steps from the threshold on
 
   meets_threshold : (x x' : List ℤ) → Settled c x → Meets 1 x x' (added loop c)
-  meets_threshold x x' s = meets_added loop.variables c.g (neg_ℤ c.t) x x' (by_value c.t (dot c.g x) s)
-    where
-      by_value : (t a : ℤ) → t ≤ℤ a → pos 0 ≤ℤ (a +ℤ neg_ℤ t)
-      by_value t a s = solve_le (v (pos 0)) (v a ⊕ neg (v t)) (omega (arith, le_fact (v t) (v a) s))
+  meets_threshold x x' s = meets_added loop.variables c.g _ x x' (past_threshold c.t (dot c.g x) s)
 
   pub settled_bounds_rest : Bounds loop (Settled c)
       (rank (longer loop c) c.ranking) (start (longer loop c) c.ranking) (fall (longer loop c) c.ranking)
