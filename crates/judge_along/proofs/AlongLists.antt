@@ -20,7 +20,7 @@ pub along_dot : (rows : List ℕ) (entries : ℕ) (certificate : List ℕ) (plac
 unfolding along_term entries_from rights_from
 along_dot rows entries certificate place n = sym (dot_tabulate n (λ j. entry_at rows (entries + 2 * j)) (λ j. right_at certificate (place + 4 * j)))
 
--- A-as-V + A'·U, and A·(W - V) + A'·W
+-- A·V + A'·U, and A·(W - V) + A'·W
 pub direction_dot : (rows : List ℕ) (row n : ℕ) (certificate : List ℕ) (place : ℕ)
     → direction_of rows row n certificate place
     ≡ dot (row_from rows n row).now (rights_from certificate (place + 4 * n) n) +ℤ dot (row_from rows n row).next (rights_from certificate place n)

@@ -25,7 +25,7 @@ most_state = 32768 * 1048576
 abbrev pub most_rank : ℕ
 most_rank = 274877906944 * 1048576
 
--- ---- along one row: A-as-V, A'·U, A-as-W and A'·W over the first `count` columns. A starts at `row`, and U, then V, then W, n entries each,
+-- ---- along one row: A·V, A'·U, A·W and A'·W over the first `count` columns. A starts at `row`, and U, then V, then W, n entries each,
 -- at `place`
 
 pub record AlongOf (rows : List ℕ) (row n : ℕ) (certificate : List ℕ) (place count : ℕ) (v u now next : ℤ) : Type 0 where
@@ -34,12 +34,12 @@ pub record AlongOf (rows : List ℕ) (row n : ℕ) (certificate : List ℕ) (pla
   pub now_sum : SumOf count most_along (along_term rows row certificate (place + 8 * n)) now
   pub next_sum : SumOf count most_along (along_term rows (row + 2 * n) certificate (place + 8 * n)) next
 
--- A-as-V + A'·U
+-- A·V + A'·U
 unfoldable pub direction_of : List ℕ → ℕ → ℕ → List ℕ → ℕ → ℤ
 direction_of rows row n certificate place =
     total n (along_term rows row certificate (place + 4 * n)) +ℤ total n (along_term rows (row + 2 * n) certificate place)
 
--- A·(W - V) + A'·W, with A·(W - V) as A-as-W - A-as-V
+-- A·(W - V) + A'·W, with A·(W - V) as A·W - A·V
 unfoldable pub step_of : List ℕ → ℕ → ℕ → List ℕ → ℕ → ℤ
 step_of rows row n certificate place =
     (total n (along_term rows row certificate (place + 8 * n)) -ℤ total n (along_term rows row certificate (place + 4 * n)))

@@ -22,7 +22,7 @@ fn add_product(total: Total, rows: &[u8], entry: usize, certificate: &[u8], plac
     )
 }
 
-// One row's totals under an exclusion: A.V, A'·U, A.W and A'·W.
+// One row's totals under an exclusion: A·V, A'·U, A·W and A'·W.
 #[derive(Clone, Copy)]
 struct RowTotals {
     v: Total,
@@ -100,7 +100,7 @@ pub struct LeftSides {
     pub step: i64,
 }
 
-// A.V + A'·U, and A·(W - V) + A'·W, at the row that starts at a place.
+// A·V + A'·U, and A·(W - V) + A'·W, at the row that starts at a place.
 pub fn along(rows: &[u8], row: usize, n: usize, certificate: &[u8], place: usize) -> LeftSides
     requires { (row + 4 * n ≤ length rows.now) × (place + 12 * n ≤ length certificate.now) × (n < 16384) }
     ensures { (result.direction ≡ direction_of rows.now row n certificate.now place) × CanGrow result.direction

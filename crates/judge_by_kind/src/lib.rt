@@ -19,7 +19,7 @@ use verdict::{Outcome, Verdict};
 // Judges a certificate for a loop record of kind 5 that has been checked. There is no rank.
 pub fn judge_paths_sound(loopbytes: &[u8], certificate: &[u8]) -> Verdict
     requires { first sound_paths (bytes_alone loopbytes.now) ≡ done }
-    ensures { result ≡ path_judges (record { loopbytes = loopbytes.entry.now; certificate = certificate.now }) }
+    ensures { result ≡ path_judges (record { loopbytes = loopbytes.now; certificate = certificate.now }) }
 {
     let fault = record_paths_check::check_lexicographic(loopbytes, certificate);
     if fault.number != 0 {
@@ -34,7 +34,7 @@ pub fn judge_paths_sound(loopbytes: &[u8], certificate: &[u8]) -> Verdict
 
 // A loop of several paths, kind 5, with a certificate of kind 6.
 fn judge_paths(loopbytes: &[u8], certificate: &[u8]) -> Verdict
-    ensures { result ≡ path_judges (record { loopbytes = loopbytes.entry.now; certificate = certificate.now }) }
+    ensures { result ≡ path_judges (record { loopbytes = loopbytes.now; certificate = certificate.now }) }
 {
     let fault = record_paths_check::check_paths(loopbytes);
     if fault.number != 0 {

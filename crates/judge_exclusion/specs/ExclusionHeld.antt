@@ -12,7 +12,7 @@ unfoldable pub exclusion_held : List ℕ → ℕ → Exclusion
 exclusion_held bytes n =
     record { q = little_at 2 bytes 6; U = rights_from bytes 8 n; «V» = rights_from bytes (8 + 4 * n) n; W = rights_from bytes (8 + 8 * n) n }
 
--- A-as-V + A'·U <= 0, and A·(W - V) + A'·W <= q·b
+-- A·V + A'·U <= 0, and A·(W - V) + A'·W <= q·b
 abbrev pub stays : Exclusion → Row → Bool
 stays c row = le_z (dot row.now c.«V» +ℤ dot row.next c.U) (pos 0)
 

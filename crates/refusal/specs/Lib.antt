@@ -6,5 +6,5 @@ pub mod Places
 pub mod Faults
 -- one possible answer, stated of a contract
 pub mod Single
--- the same, stated of the clauses of a function that is proved by hand
+-- the same, stated of all the clauses at once
 pub mod Lone

@@ -1,5 +1,5 @@
--- 01, "How far the promises reach": "the promise leaves one possible answer". It is `Single` for a function that is proved by hand: the check writes
--- no `Learnt` of one, so it is stated of the function's clauses, all of its `ensures` among them. `seen` names what was lent, as it is afterwards;
+-- 01, "How far the promises reach": "the promise leaves one possible answer". It is `Single`, stated of the
+-- function's clauses themselves, all of its `ensures` among them, and not of what a caller learns. `seen` names what was lent, as it is afterwards;
 -- a list that it leaves out is not claimed.
 use Rattle.std.specs.Prelude.{◌≡◌}
 use seplogic.Ra.Ura.{Ura}

@@ -83,6 +83,12 @@ pub step-failed : (error : Error) (most : ℕ) → false ≡ passes (error_kind 
 unfolding step_of
 step-failed error most pass = ap (λ b. cond b Again (Failed error)) pass
 
+-- what a failed call means, by the system's number of its error
+pub step_by_number : (error : Error) (number : ℤ) (most : ℕ) → error_kind error ≡ os_error_kind number
+    → step_of (Err error) most ≡ cond (passes_number number) Again (Failed error)
+unfolding step_of
+step_by_number error number most kind = ap (λ b. cond b Again (Failed error)) (ap passes kind ∙ passes_by_number number)
+
 -- single answers: the end, an interrupted call, a moment's emptiness, and a failure (EIO is 5)
 pub answers_told : (interrupted blocked broken : Error) → error_kind interrupted ≡ os_error_kind (pos 4) → error_kind blocked ≡ os_error_kind (pos 11)
     → error_kind broken ≡ os_error_kind (pos 5)

@@ -72,7 +72,7 @@ module _ (loop : Loop) (c : Ranking) (nonneg : NonNegative c) (holds : RankingHo
             solve_le (v p ⊗ neg (v Zb)) (v r_X ⊝ v r_X')
             (omega (arith, le_fact (v ZA-X ⊕ v r_X') (v p ⊗ v Zb) h, eq_fact (v ZA-X) (v (negsuc 0) ⊗ v r_X) e))
 
-  -- non_negative Y, Z that meet the four conditions make r, δ0, δ a linear ranking function over fractions
+  -- non-negative Y, Z that meet the four conditions make r, δ0, δ a linear ranking function over fractions
   pub ranking_is_linear_ranking : RanksFractions loop (rank loop c) (start loop c) (fall loop c)
   unfolding rank fall
   ranking_is_linear_ranking p h =

@@ -1,4 +1,4 @@
--- One law of steps, on which every kind of certificate stands: rows with non_negative multipliers add up. And what follows for rows that
+-- One law of steps, on which every kind of certificate stands: rows with non-negative multipliers add up. And what follows for rows that
 -- weigh as they are held to.
 use Prim.Native.Nat.{ℕ, ◌<◌, zero-le}
 use mathlib.Core.Path.{◌≡◌, sym}

@@ -38,7 +38,7 @@ ranking_tests n =
     ((23 at_each n unless λ j p. same_z (Z-sum p (A j) +ℤ Z-sum p (A' j)) (pos 0)) ++
     ((24 at (λ p. 0) unless λ p. lt_z (Z-sum p b) (pos 0)) ∷ [])))
 
--- ---- exclusion: for every row, A-as-V + A'·U <= 0; then for every row, A·(W - V) + A'·W <= q·b
+-- ---- exclusion: for every row, A·V + A'·U <= 0; then for every row, A·(W - V) + A'·W <= q·b
 
 -- row i of the loop
 abbrev pub row_at : ℕ → Proposal Exclusion → Row

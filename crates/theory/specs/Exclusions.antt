@@ -16,11 +16,11 @@ pub record OfSize (loop : Loop) (c : Exclusion) : Type 0 where
   pub V-entries : length c.«V» ≡ loop.variables
   pub W-entries : length c.W ≡ loop.variables
 
--- a direction (D, E) never leaves a row: A-as-D + A'·E <= 0
+-- a direction (D, E) never leaves a row: A·D + A'·E <= 0
 abbrev pub Stays : List ℤ → List ℤ → Row → Type 0
 Stays D E row = (dot row.now D +ℤ dot row.next E) ≤ℤ pos 0
 
--- for every row, A-as-V + A'·U <= 0, and A·(W - V) + A'·W <= q·b
+-- for every row, A·V + A'·U <= 0, and A·(W - V) + A'·W <= q·b
 pub record ExclusionHolds (loop : Loop) (c : Exclusion) : Type 0 where
   pub direction : Each (Stays c.«V» c.U) loop.rows
   pub step : Each (Meets c.q (less c.W c.«V») c.W) loop.rows

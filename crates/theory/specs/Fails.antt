@@ -39,7 +39,7 @@ pub data RankingFails (loop : Loop) (c : Ranking) : ℕ → ℕ → Type 0 where
 abbrev row_at : Loop → ℕ → Row
 row_at loop i = get_or loop.rows i (record { now = []; next = []; right = pos 0 })
 
--- row i has A-as-V + A'·U <= 0, and A·(W - V) + A'·W <= q·b
+-- row i has A·V + A'·U <= 0, and A·(W - V) + A'·W <= q·b
 abbrev pub DirectionStays : Loop → Exclusion → ℕ → Type 0
 DirectionStays loop c i = Stays c.«V» c.U (row_at loop i)
 

@@ -29,7 +29,7 @@ over n rows = record { variables = n; rows = rows }
 abbrev pub with_row : Loop → Row → Loop
 with_row loop row = over loop.variables (loop.rows ++ (row ∷ []))
 
--- states X/p and X'/p meet a row: A-as-X + A'·X' <= p·b
+-- states X/p and X'/p meet a row: A·X + A'·X' <= p·b
 abbrev pub Meets : ℕ → List ℤ → List ℤ → Row → Type 0
 Meets p X X' row = (dot row.now X +ℤ dot row.next X') ≤ℤ (pos p *ℤ row.right)
 

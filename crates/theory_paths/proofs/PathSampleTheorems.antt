@@ -64,7 +64,7 @@ two_counters_no_bound bound within =
     let run = two_counters_unbounded (bound (pos 2 ∷ pos 1 ∷ [])) in
     omega (arith, run.2, within (pos 2 ∷ pos 1 ∷ []) run.0 run.1)
 
--- ---- ping_pong
+-- ---- ping-pong
 
 pub ping_pong_ranked : Throughout (length ping_pong.paths) (λ j. ranking_told (path ping_pong j) ping_pong_ranking ≡ done)
 unfolding computing

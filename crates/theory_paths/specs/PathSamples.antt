@@ -1,4 +1,4 @@
--- Loops of several paths, and arguments for them, as lists of rows: two counters, which ends though its steps have no bound; ping_pong,
+-- Loops of several paths, and arguments for them, as lists of rows: two counters, which ends though its steps have no bound; ping-pong,
 -- which runs for ever though each of its paths has a ranking; and loops that run for ever, each with an argument that lacks one thing only.
 use Rattle.std.specs.Prelude.{ℕ, zero, suc, List, [], ◌∷◌, map, ℤ, pos, negsuc, neg_ℤ}
 use Rattle.theory.specs.Loops.{Row}
@@ -48,7 +48,7 @@ two_counters_argument =
     argument x_then_y
     (part_of 0 (1 ∷ 0 ∷ 0 ∷ []) (0 ∷ 0 ∷ 1 ∷ []) [] ∷ part_of 1 (0 ∷ 1 ∷ 0 ∷ 0 ∷ []) (0 ∷ 0 ∷ 0 ∷ 1 ∷ []) ((0 ∷ 0 ∷ 1 ∷ 0 ∷ []) ∷ []) ∷ [])
 
--- ---- ping_pong: in the first path one goes from x to y, in the second from y to x
+-- ---- ping-pong: in the first path one goes from x to y, in the second from y to x
 
 -- x >= 1; x' = x - 1; y' = y + 1: -x <= -1; -x + x' <= -1; x - x' <= 1; -y + y' <= 1; y - y' <= -1
 abbrev pub x_to_y : List Row

@@ -32,7 +32,7 @@ other_way_round Y₁ =
 
 unfoldable pub told : List (Told × Told)
 told =
-    -- two counters; ping_pong, a path at a time and the two together; no path at all
+    -- two counters; ping-pong, a path at a time and the two together; no path at all
     (lexicographic_told two_counters two_counters_argument, done) ∷
     (ranking_told (path ping_pong 0) ping_pong_ranking, done) ∷
     (ranking_told (path ping_pong 1) ping_pong_ranking, done) ∷
@@ -50,7 +50,7 @@ told =
     (told_by (1 ∷ 0 ∷ 0 ∷ []) (1 ∷ 0 ∷ 0 ∷ []) (0 ∷ 1 ∷ 0 ∷ 0 ∷ []) (0 ∷ 0 ∷ 0 ∷ 1 ∷ []) ((0 ∷ 0 ∷ 1 ∷ 0 ∷ []) ∷ []), refused 52 0) ∷
     (told_of (pos 1) (pos 2), refused 52 0) ∷
     (told_of (pos 1) (pos 0), done) ∷
-    -- 53: over A, over A' (over b: ping_pong), and multipliers that are not given
+    -- 53: over A, over A' (over b: ping-pong), and multipliers that are not given
     (told_by (1 ∷ 0 ∷ 0 ∷ []) (0 ∷ 0 ∷ 1 ∷ []) (0 ∷ 1 ∷ 0 ∷ 0 ∷ []) (0 ∷ 0 ∷ 0 ∷ 1 ∷ []) ((0 ∷ 1 ∷ 1 ∷ 0 ∷ []) ∷ []), refused 53 1) ∷
     (told_by (1 ∷ 0 ∷ 0 ∷ []) (0 ∷ 0 ∷ 1 ∷ []) (0 ∷ 1 ∷ 0 ∷ 0 ∷ []) (0 ∷ 0 ∷ 0 ∷ 1 ∷ []) ((1 ∷ 0 ∷ 0 ∷ 0 ∷ []) ∷ []), refused 53 1) ∷
     (told_by (1 ∷ 0 ∷ 0 ∷ []) (0 ∷ 0 ∷ 1 ∷ []) (0 ∷ 1 ∷ 0 ∷ 0 ∷ []) (0 ∷ 0 ∷ 0 ∷ 1 ∷ []) [], refused 53 1) ∷

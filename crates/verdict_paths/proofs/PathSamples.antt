@@ -1,4 +1,4 @@
--- Two counters and ping_pong, of the records' own bytes. The bytes hold the samples of crate `theory_paths`; the first pair is accepted, the second
+-- Two counters and ping-pong, of the records' own bytes. The bytes hold the samples of crate `theory_paths`; the first pair is accepted, the second
 -- is refused with 53 at path 1; and what is promised of every pair is said here of these, each way of each, so a promise that were weakened would
 -- be missed.
 use mathlib.Core.Path.{◌≡◌, refl, sym, ap, ◌∙◌}
@@ -118,7 +118,7 @@ counters_end_as_shown =
 pub counters_leave_list : (lent : List ℤ) → rank_judged two_counters_bytes two_counters_argument_bytes lent ≡ lent
 counters_leave_list lent = paths_leave_list two_counters_bytes two_counters_argument_bytes lent samples_judged.0
 
--- ---- of ping_pong: 53 at path 1 is told, so it fails there; and as it fails there, it is told
+-- ---- of ping-pong: 53 at path 1 is told, so it fails there; and as it fails there, it is told
 
 to_and_fro_sound : PairSound to_and_fro
 unfolding computing ping_pong_bytes ping_pong_argument_bytes
@@ -226,7 +226,7 @@ counters_hold =
     (paths_in_values two_counters two_counters_argument counters_in counters_argument_in []
     ).0 (ap (λ (a : Verdict). a.number) (counters_accepted_in_values []))
 
--- ping_pong is within the limits as its bytes are sound
+-- ping-pong is within the limits as its bytes are sound
 ping_pong_in : BranchesIn ping_pong
 ping_pong_in = rw held_as_paths.6 at (sound_branches to_and_fro to_and_fro_sound)
 

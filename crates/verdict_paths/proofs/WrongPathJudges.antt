@@ -1,5 +1,5 @@
 -- Wrong judges of several paths, each with a named input on which it differs from the definition: one that refuses everything, one that accepts
--- everything, one that fills the rank list, and one that judges the paths one by one: each path of ping_pong alone is a loop whose argument
+-- everything, one that fills the rank list, and one that judges the paths one by one: each path of ping-pong alone is a loop whose argument
 -- is accepted, and the two together run for ever, so no certificate is accepted for them.
 use mathlib.Core.Path.{◌≡◌, refl, sym, ap, ◌∙◌}
 use Prim.Native.Nat.{ℕ}
@@ -24,7 +24,7 @@ use Rattle.verdict_paths.proofs.PathSamples.{ping_pong_never_accepted}
 pub refuses_everything : (verdict : Verdict) → (verdict.number ≡ 0 → ⊥) → verdict ≡ path_judges counters → ⊥
 refuses_everything verdict refuses h = refuses (ap (λ (a : Verdict). a.number) (h ∙ counters_accepted_back))
 
--- ping_pong is refused, so a judge that accepts everything is wrong there
+-- ping-pong is refused, so a judge that accepts everything is wrong there
 pub accepts_everything : (verdict : Verdict) → verdict.number ≡ 0 → verdict ≡ path_judges to_and_fro → ⊥
 accepts_everything verdict accepts h =
     let z : ◌≡◌ {A = ℕ} 53 0 = sym (ap (λ (a : Verdict). a.number) (h ∙ to_and_fro_told)) ∙ accepts in omega arith
@@ -41,7 +41,7 @@ abbrev by_guard_and_fall : List ℤ → Lexicographic
 by_guard_and_fall r =
     argument (component_of r (pos 1) (pos 1) ∷ []) (part_of 0 (1 ∷ 0 ∷ 0 ∷ 0 ∷ 0 ∷ []) (0 ∷ 1 ∷ 0 ∷ 0 ∷ 0 ∷ []) [] ∷ [])
 
--- either path of ping_pong as a record of its own is accepted
+-- either path of ping-pong as a record of its own is accepted
 pub each_alone :
     let first = alone 2 x_to_y in
     let second = alone 2 y_to_x in
@@ -50,7 +50,7 @@ pub each_alone :
 unfolding computing making
 each_alone = (refl, refl)
 
--- so a judge that accepts a loop whenever each path alone is accepted is wrong for every certificate of ping_pong
+-- so a judge that accepts a loop whenever each path alone is accepted is wrong for every certificate of ping-pong
 pub one_by_one : (verdict : Verdict) → verdict.number ≡ 0 → (certificate : List ℕ) (lent : List ℤ)
     → verdict ≡ judged ping_pong_bytes certificate lent → ⊥
 one_by_one verdict accepts certificate lent h =

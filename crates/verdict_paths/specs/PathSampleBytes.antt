@@ -1,4 +1,4 @@
--- Records of kinds 5 and 6 as bytes, written out from the layout of 02, Q-3: two counters, ping_pong and a third counter, with an argument
+-- Records of kinds 5 and 6 as bytes, written out from the layout of 02, Q-3: two counters, ping-pong and a third counter, with an argument
 -- for each. In a record of kind 5 a line is the length, the kind, n, the count of paths and each m, then a line for each row; in one of
 -- kind 6 the length, the kind, the count of components and each path's component number, then a line for each component (r, δ0, δ) and for
 -- each list of multipliers. Crate `theory_paths` has the same samples as rows; `PathSamples` proves that these bytes hold them.
@@ -32,7 +32,7 @@ two_counters_argument_bytes =
     ∷ 0 ∷ 0 ∷ 0 ∷ 0 ∷ 1 ∷ 0 ∷ 0 ∷ 0
     ∷ []
 
--- ---- ping_pong
+-- ---- ping-pong
 
 -- n 2; two paths, of 5 rows each
 unfoldable pub ping_pong_bytes : List ℕ

@@ -1,5 +1,5 @@
 -- Laws of the dot product and of the weighted sum over rows: linear in either argument (`dot_comm` turns the arguments round), over `++`, under scaling,
--- at zeros; monotone under non_negative weights; bounded by the bounds of the parts and the count of terms; and the total that takes one row after another.
+-- at zeros; monotone under non-negative weights; bounded by the bounds of the parts and the count of terms; and the total that takes one row after another.
 -- No law asks for lists of one length but those over `++`: what is missing counts 0.
 use Prim.Native.Nat.{ℕ, zero, suc, ◌+◌, ◌*◌, ◌≤◌, ◌<◌}
 use mathlib.Core.Path.{◌≡◌, refl, sym, ap, ◌∙◌}
