@@ -1,6 +1,6 @@
 -- `sheet_put::put_certificates` meets its contract: what is written and the lines of the bytes from `from` on are together all lines. The measure is
 -- how many bytes are left. Assumes nothing.
-use mathlib.Core.Path.{◌≡◌, refl, sym, ◌∙◌}
+use mathlib.Core.Path.{◌≡◌, refl, sym, ap, ◌∙◌}
 use Prim.Native.Nat.{ℕ, ◌+◌, ◌-◌, ◌≤◌, ◌<◌}
 use mathlib.Core.List.{List, [], ◌++◌}
 use native.Mathlib.Omega.{arith}
@@ -86,7 +86,7 @@ first-end-requires : tie.Need-first_end-end-requires invariant-loop-from decreas
 first-end-requires c κs = search rules
 
 slice-aggregate-put-certificate : tie.Need-slice_bounds-put_certificate-end invariant-loop-from decreases-loop-from
-slice-aggregate-put-certificate c = let e = c.before in rw (part_is e) (sym (length-take-le _ _ (within e)))
+slice-aggregate-put-certificate c = let e = c.before in sym (length-take-le _ _ (omega (arith, ap length (part_is e), within e, long e)))
 
 put-certificate-requires : tie.Need-put_certificate-at-requires invariant-loop-from decreases-loop-from
 put-certificate-requires c κs =
