@@ -11,10 +11,10 @@ use Rattle.endian.specs.Numbers.{little_at}
 use Rattle.whole.specs.Sums.{total}
 use Rattle.whole.proofs.Size.{abs_add, abs_product}
 use Rattle.whole.proofs.Solve.{v, ◌⊕◌, ◌⊗◌, solve}
-use Rattle.judge_sums.specs.Places.{entry_at, right_at, row_place, entry_term, lift_term, Lifts, Grown, RowAdded, AllGrow, AllModest, AllNone, Sided, SumsOf, BesideOf, most_entry, most_right}
-use Rattle.judge_sums.specs.Running.{Modest, CanGrow, Adds, SumOf}
-use Rattle.judge_sums.proofs.ColumnLaws.{beside_none, beside_more, beside_grows}
-use Rattle.judge_sums.proofs.LiftLaws.{grown, row_weightless, sums_none, sums_more, sums_modest, sums_grow, lifts_small, entry_more}
+use Rattle.judge_sums.specs.Places.{entry_at, right_at, row_place, entry_term, lift_term, Lifts, Grown, RowAdded, AllModest, AllNone, Sided, SumsOf, BesideOf, most_entry, most_right}
+use Rattle.judge_sums.specs.Running.{Modest, Adds, SumOf}
+use Rattle.judge_sums.proofs.ColumnLaws.{beside_none, beside_more}
+use Rattle.judge_sums.proofs.LiftLaws.{grown, row_weightless, sums_none, sums_more, sums_modest, lifts_small, entry_more}
 use Rattle.judge_sums.proofs.RunningLaws.{adds_nothing}
 use Rattle.judge_fours.specs.declared.Four.{Four}
 use Rattle.judge_fours.specs.Fours.{FourAt, FourAdded, SidedFour, FourFit, SoFar}
@@ -62,10 +62,6 @@ module _ (multipliers : List ℕ) (place : ℕ) (rows : List ℕ) (start n : ℕ
     omega (arith, h.beside.lift_sum.small),
     omega (arith, h.beside.right_sum.small),
   )
-
-  pub known_grows : (i : ℕ) {sums : List ℤ} {lift right : ℤ} → Known i sums lift right → i < 16384 → AllGrow (2 * n) sums × CanGrow lift × CanGrow right
-  known_grows i {sums} h few =
-      let grows = beside_grows multipliers place rows start n i few h.beside in (sums_grow multipliers place rows start n i sums h.columns few, grows.0, grows.1)
 
   -- one row more
   pub known_one : (i multiplier at : ℕ) {sums sums' : List ℤ} {lift right lift' right' : ℤ} → Known i sums lift right

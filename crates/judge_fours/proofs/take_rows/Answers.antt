@@ -3,7 +3,7 @@ use Rattle.std.proofs.Common.{◌+◌, ◌*◌, ◌≤◌, refl, arith}
 use Rattle.judge_sums.specs.Places.{row_place}
 use Rattle.judge_sums.proofs.ColumnLaws.{row_inside}
 use Rattle.judge_sums.proofs.LiftLaws.{rest_none, rest_more}
-use Rattle.judge_fours.proofs.FourLaws.{known_fits, known_grows, known_one, known_weightless, known_four}
+use Rattle.judge_fours.proofs.FourLaws.{known_fits, known_one, known_weightless, known_four}
 use Rattle.judge_fours.proofs.take_rows.Goals as goal
 
 pub returns-then-under_y-under_z-eq0 : goal.returns-then-under_y-under_z-eq0
