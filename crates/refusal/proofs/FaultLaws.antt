@@ -1,41 +1,34 @@
--- What a value that was handed on says of what is told: a number other than 0 is a refusal's, and 0 is done where nothing is told by 0.
-use mathlib.Core.Path.{◌≡◌, refl, sym, ap, ◌∙◌}
+-- What a result that was handed on says of what is told, and what it is for what is told.
+use Rattle.std.specs.Prelude.{Result, Ok, Err}
+use mathlib.Core.Path.{◌≡◌, refl, ap}
 use Prim.Native.Nat.{ℕ}
-use mathlib.Core.Bool.{Bool, true, false}
-use Rattle.refusal.specs.Tests.{Told, done, refused, ◌then◌, number, place}
-use Rattle.refusal.specs.Places.{told_each, told_once}
-use Rattle.refusal.specs.Faults.{fault_of}
+use Rattle.refusal.specs.Tests.{Told, done, refused}
+use Rattle.refusal.specs.Faults.{result_of}
 use Rattle.refusal.specs.declared.Fault.{Fault}
-use Rattle.refusal.proofs.PlaceLaws.{all-or-first, told_none, told_there}
 
--- 0 is told only by what is done
-abbrev pub Named : Told → Type 0
-Named t = number t ≡ 0 → t ≡ done
+module _ {A : Type 0} where
+  -- what was given says that it is done
+  pub told_done : (t : Told) (a x : A) → Ok x ≡ result_of t a → t ≡ done
+  unfolding result_of
+  told_done done a x h = refl
+  told_done (refused k p) a x h = cc
 
-pub named_then : (s t : Told) → Named s → Named t → Named (s then t)
-unfolding ◌then◌
-named_then done t f g = g
-named_then (refused k p) t f g = f
+  pub told_given : (t : Told) (a x : A) → Ok x ≡ result_of t a → x ≡ a
+  unfolding result_of
+  told_given done a x h = cc
+  told_given (refused k p) a x h = cc
 
-pub named_each : (k n : ℕ) (holds : ℕ → Bool) → (k ≡ 0 → ⊥) → Named (told_each k n holds)
-unfolding number
-named_each k n holds some h =
-    all-or-first n holds (told_none k n holds) (λ below. absurd (some (sym (ap number (told_there k n holds below)) ∙ h)))
+  -- a refusal says what is told
+  pub told_refused : (t : Told) (a : A) (f : Fault) → Err f ≡ result_of t a → t ≡ refused f.number f.place
+  unfolding result_of
+  told_refused done a f h = cc
+  told_refused (refused k p) a f h = cc
 
-pub named_once : (k : ℕ) (holds : Bool) → (k ≡ 0 → ⊥) → Named (told_once k holds)
-unfolding told_once number
-named_once k true some h = refl
-named_once k false some h = absurd (some h)
+  -- and the other way
+  pub gives : {t : Told} (a : A) → t ≡ done → Ok a ≡ result_of t a
+  unfolding result_of
+  gives a h = rw h
 
-module _ (f : Fault) (t : Told) (is : f ≡ fault_of t) where
-  pub fault_refused : (f.number ≡ 0 → ⊥) → t ≡ refused f.number f.place
-  unfolding fault_of number place
-  fault_refused some = rw is (by_told t (λ h. some (ap (λ g. g.number) is ∙ h)))
-    where
-      by_told : (t : Told) → (number t ≡ 0 → ⊥) → t ≡ refused (number t) (place t)
-      by_told done h = absurd (h refl)
-      by_told (refused k p) h = refl
-
-  pub fault_done : Named t → f.number ≡ 0 → t ≡ done
-  unfolding fault_of
-  fault_done named zero = named (sym (ap (λ g. g.number) is) ∙ zero)
+  pub refuses : {t : Told} {k p : ℕ} (a : A) → t ≡ refused k p → Err (record { number = k; place = p }) ≡ result_of t a
+  unfolding result_of
+  refuses a h = rw h

@@ -1,9 +1,18 @@
-// What every call has: refusals in order, and a promise that leaves one answer. Definitions and laws, and what tests tell as a value.
+// What every call has: refusals in order, and a promise that leaves one answer. Definitions and laws, and a refusal as a value.
 #![tactic(auto)]
 
-// What tests tell: the number and place of the first that fails; 0 and 0 where none does.
-#[derive(Clone, Copy)]
+ghost use Rattle.std.specs.Prelude.{◌≡◌, Err};
+
+// A refusal: its number and its place.
+#[derive(Clone, Copy, Debug, PartialEq, Eq)]
 pub struct Fault {
     pub number: usize,
     pub place: usize,
+}
+
+// A refusal, as the answer of whatever tells it.
+pub fn refused<T>(number: usize, place: usize) -> Result<T, Fault>
+    ensures { result ≡ Err (record { number = number; place = place }) }
+{
+    Err(Fault { number, place })
 }
