@@ -18,8 +18,8 @@ use Rattle.record.specs.Readers.{Reader, framing, stated_length, kind_number, ki
 use Rattle.record.proofs.Lengths.{length_law}
 use Rattle.record_fields.specs.Runs.{field_number_at, fits, fault}
 use Rattle.record_fields.proofs.FirstFaults.{all_fit, not_all_fit, fault_within}
-use Rattle.record_check.specs.Checks.{refusal, checked, checks, Framed, ended}
-use Rattle.record_check.proofs.FrameWays.{says}
+use Rattle.record_check.specs.Checks.{said, checks, Framed, ended}
+use Rattle.record_check.proofs.FrameWays.{refusal, says}
 
 module _ (r : Reader) (f : Framed r.bytes) where
   unframed : first sound r ≡ first (drop 4 sound) r
@@ -85,18 +85,18 @@ module _ (r : Reader) (f : Framed r.bytes) where
             unfolding list_start fields
             end = omega (arith, formula, length_law (kind r) (counts_read r) known)
 
-            pub values_told : (at : ℕ) → at ≡ fault (fields r) r.bytes (list_start r)
-                → ended at (length r.bytes) (kind_number r) (counts_read r).n (counts_read r).m (counts_read r).ms ≡ checks r
-            unfolding ended sound list fault checks checked
-            values_told at told =
-                elim (dec_lt at (length r.bytes)) [
+            -- the last test
+            pub values_told : first sound r ≡ ended (fault (fields r) r.bytes (list_start r)) (length r.bytes)
+            unfolding ended sound list fault
+            values_told =
+                elim (dec_lt (fault (fields r) r.bytes (list_start r)) (length r.bytes)) [
                   | yes early ↦
                       let out = not_all_fit r.bytes (fields r) (list_start r) (omega (arith, end)) in
-                      rw (lt-ltb at (length r.bytes) early, told) (says r (past_length ∙ failed _ _ _ _ r out))
+                      rw (lt-ltb (fault (fields r) r.bytes (list_start r)) (length r.bytes) early) (past_length ∙ failed _ _ _ _ r out)
                   | no late ↦
                       let all = all_fit r.bytes (fields r) (list_start r) (omega (arith, end, fault_within r.bytes (fields r) (list_start r))) in
-                      let l : length r.bytes ≤ at = omega arith in
-                      rw (le-ltb at (length r.bytes) l) (ap (λ t. checked t r) (sym (past_length ∙ passed _ _ _ _ r all ∙ passes_done [] r tt)))
+                      let l : length r.bytes ≤ fault (fields r) r.bytes (list_start r) = omega arith in
+                      rw (le-ltb (fault (fields r) r.bytes (list_start r)) (length r.bytes) l) (past_length ∙ passed _ _ _ _ r all ∙ passes_done [] r tt)
                 ]
 
 -- ---- counts in the bytes

@@ -1,4 +1,5 @@
 -- The ways through the order for a certificate's record, over plain numbers: its kind and its arguments, and then a kind with no count in its body.
+use Rattle.std.specs.Prelude.{Ok, Err}
 use mathlib.Core.Path.{◌≡◌, sym, ◌∙◌}
 use Prim.Native.Nat.{ℕ, ◌+◌, ◌≤◌}
 use mathlib.Core.Bool.{Bool, true, false, ◌&&◌}
@@ -6,16 +7,21 @@ use mathlib.Core.List.{List, []}
 use lib.IntN.{pos}
 use lib.ListN.{length}
 use Rattle.endian.specs.Numbers.{little_at}
+use Rattle.refusal.specs.declared.Fault.{Fault}
+use Rattle.refusal.specs.Faults.{result_of}
+use Rattle.refusal.specs.Tests.{first}
+use Rattle.refusal.proofs.FaultLaws.{handed_on, went_on}
 use Rattle.record.specs.declared.Wanted.{Wanted}
 use Rattle.record.specs.Fields.{widths}
 use Rattle.record.specs.Layouts.{Kind, kind_of, is_lasso, counts, layout, length_of, ahead, listed}
 use Rattle.record.specs.Ranges.{variables, rows, within}
-use Rattle.record.specs.Readers.{Reader, kind_number, kind, counts_read, fields, list_start, arguments_fit}
+use Rattle.record.specs.Readers.{Reader, kind_number, kind, counts_read, fields, list_start, arguments_fit, sound}
 use Rattle.record.specs.Wants.{wants_of}
 use Rattle.record.proofs.KindLaws.{wanted_no_loop, wanted_known}
 use Rattle.record_fields.specs.Runs.{fault}
 use Rattle.record_fields.proofs.FirstFaults.{fault_none}
-use Rattle.record_check.specs.Checks.{refusal, checks, certificate_check, Framed, ended}
+use Rattle.record_check.specs.Checks.{said, checks, certificate_check, Framed, ended}
+use Rattle.record_check.proofs.FrameWays.{stopped, right, refusal}
 use Rattle.record_check.proofs.BodyWays.{unwanted, bad_arguments, bad_length, values_told}
 
 module _ (wanted : Wanted) (bytes : List ℕ) (n m : ℕ) (f : Framed bytes) where
@@ -66,9 +72,23 @@ module _ (wanted : Wanted) (bytes : List ℕ) (n m : ℕ) (f : Framed bytes) whe
       unfolding fields list_start listed ahead widths
       plain_list = rw (kind_is, plain_read, wanted_no_loop wanted k known, plain)
 
-      pub plain_values : length bytes ≡ 4 + length_of k (record { n = n; m = m; ms = 0 }) → (at : ℕ) → at ≡ fault (layout k (record { n = n; m = m; ms = 0 })) bytes 6
-          → ended at (length bytes) (little_at 2 bytes 4) n m 0 ≡ checks (certificate_check wanted bytes n m)
-      unfolding certificate_check certificate kind_number
-      plain_values h at told =
-          rw plain_read at
-          (values_told certificate f certificate_wanted (argued true fit) plain_there plain_counts (rw (kind_is, plain_read) h) (rw kind_is (wanted_known wanted k known)) at (told ∙ sym plain_list))
+      module _ (formula : length bytes ≡ 4 + length_of k (record { n = n; m = m; ms = 0 })) (at : ℕ)
+          (told : at ≡ fault (layout k (record { n = n; m = m; ms = 0 })) bytes 6) where
+        plain_told : first sound certificate ≡ ended at (length bytes)
+        unfolding certificate_check certificate
+        plain_told =
+            rw (told, ← plain_list)
+            (values_told certificate f certificate_wanted (argued true fit) plain_there plain_counts (rw (kind_is, plain_read) formula) (rw kind_is (wanted_known wanted k known)))
+
+        plain_said : said certificate ≡ record { kind = little_at 2 bytes 4; n = n; m = m; ms = 0 }
+        unfolding said certificate_check certificate kind_number
+        plain_said = rw plain_read
+
+        pub plain_out : (e : Fault) → stopped e ≡ result_of (ended at (length bytes)) tt → Err e ≡ checks (certificate_check wanted bytes n m)
+        unfolding checks certificate
+        plain_out e h = rw plain_told (handed_on (ended at (length bytes)) tt (said certificate) e h)
+
+        pub plain_sound : right ≡ result_of (ended at (length bytes)) tt
+            → Ok (record { kind = little_at 2 bytes 4; n = n; m = m; ms = 0 }) ≡ checks (certificate_check wanted bytes n m)
+        unfolding checks certificate
+        plain_sound h = rw (plain_told, plain_said) (went_on (ended at (length bytes)) tt tt _ h)

@@ -1,4 +1,5 @@
 -- The ways through the order for a record of kind 4, over plain numbers: what a check answers at each return after the arguments.
+use Rattle.std.specs.Prelude.{Ok, Err}
 use mathlib.Core.Path.{◌≡◌, refl, sym, ◌∙◌}
 use Prim.Native.Nat.{ℕ, ◌+◌, ◌≤◌, ◌<◌}
 use mathlib.Core.Bool.{true, false, ◌&&◌}
@@ -7,15 +8,20 @@ use native.Mathlib.Omega.{arith}
 use lib.IntN.{pos}
 use lib.ListN.{length}
 use Rattle.endian.specs.Numbers.{little_at}
+use Rattle.refusal.specs.declared.Fault.{Fault}
+use Rattle.refusal.specs.Faults.{result_of}
+use Rattle.refusal.specs.Tests.{first}
+use Rattle.refusal.proofs.FaultLaws.{handed_on, went_on}
 use Rattle.record.specs.declared.Wanted.{Wanted}
 use Rattle.record.specs.Fields.{width, widths}
 use Rattle.record.specs.Layouts.{lasso, kind_of, is_loop, is_lasso, is_known, row_count, counts, layout, length_of, ahead, listed}
 use Rattle.record.specs.Ranges.{variables, rows, within}
-use Rattle.record.specs.Readers.{Reader, kind_number, kind, counts_read, fields, list_start, arguments_fit}
+use Rattle.record.specs.Readers.{Reader, kind_number, kind, counts_read, fields, list_start, arguments_fit, sound}
 use Rattle.record.specs.Wants.{wants_of}
 use Rattle.record_fields.specs.Runs.{fits, fault}
 use Rattle.record_fields.proofs.FirstFaults.{fault_none, fault_next, fault_here}
-use Rattle.record_check.specs.Checks.{refusal, checks, certificate_check, Framed, ended}
+use Rattle.record_check.specs.Checks.{said, checks, certificate_check, Framed, ended}
+use Rattle.record_check.proofs.FrameWays.{stopped, right, refusal}
 use Rattle.record_check.proofs.BodyWays.{no_counts, bad_count, bad_length, values_told, count_fits}
 
 module _ (wanted : Wanted) (bytes : List ℕ) (n m : ℕ) (f : Framed bytes) (is : little_at 2 bytes 4 ≡ 4) (known : wants_of wanted lasso ≡ true)
@@ -71,9 +77,22 @@ module _ (wanted : Wanted) (bytes : List ℕ) (n m : ℕ) (f : Framed bytes) (is
       unfolding certificate_check certificate
       lasso_length h = bad_length certificate f lasso_wanted lasso_arguments lasso_there lasso_counts (λ e. h (rw (lasso_kind, lasso_read) at e))
 
-      pub lasso_values : length bytes ≡ 4 + length_of lasso (record { n = n; m = m; ms = ms }) → (at : ℕ) → at ≡ fault (layout lasso (record { n = n; m = m; ms = ms })) bytes 8
-          → ended at (length bytes) 4 n m ms ≡ checks (certificate_check wanted bytes n m)
-      unfolding certificate_check certificate kind_number is_known
-      lasso_values h at told =
-          rw (is, lasso_read) at
-          (values_told certificate f lasso_wanted lasso_arguments lasso_there lasso_counts (rw (lasso_kind, lasso_read) h) (rw lasso_kind) at (told ∙ sym lasso_list))
+      module _ (formula : length bytes ≡ 4 + length_of lasso (record { n = n; m = m; ms = ms })) (at : ℕ)
+          (told : at ≡ fault (layout lasso (record { n = n; m = m; ms = ms })) bytes 8) where
+        lasso_values : first sound certificate ≡ ended at (length bytes)
+        unfolding certificate_check certificate is_known
+        lasso_values =
+            rw (told, ← lasso_list)
+            (values_told certificate f lasso_wanted lasso_arguments lasso_there lasso_counts (rw (lasso_kind, lasso_read) formula) (rw lasso_kind))
+
+        lasso_said : said certificate ≡ record { kind = 4; n = n; m = m; ms = ms }
+        unfolding said certificate_check certificate kind_number
+        lasso_said = rw (lasso_read, is)
+
+        pub lasso_out : (e : Fault) → stopped e ≡ result_of (ended at (length bytes)) tt → Err e ≡ checks (certificate_check wanted bytes n m)
+        unfolding checks certificate
+        lasso_out e h = rw lasso_values (handed_on (ended at (length bytes)) tt (said certificate) e h)
+
+        pub lasso_sound : right ≡ result_of (ended at (length bytes)) tt → Ok (record { kind = 4; n = n; m = m; ms = ms }) ≡ checks (certificate_check wanted bytes n m)
+        unfolding checks certificate
+        lasso_sound h = rw (lasso_values, lasso_said) (went_on (ended at (length bytes)) tt tt _ h)

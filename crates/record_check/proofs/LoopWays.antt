@@ -1,4 +1,5 @@
 -- The ways through the order for a record of kind 1, over plain numbers: what a check answers at each return.
+use Rattle.std.specs.Prelude.{Ok, Err}
 use mathlib.Core.Path.{◌≡◌, refl, sym, ◌∙◌}
 use Prim.Native.Nat.{ℕ, ◌+◌, ◌*◌, ◌≤◌, ◌<◌}
 use mathlib.Core.Bool.{true, false}
@@ -7,14 +8,19 @@ use native.Mathlib.Omega.{arith}
 use lib.IntN.{pos}
 use lib.ListN.{length}
 use Rattle.endian.specs.Numbers.{little_at}
+use Rattle.refusal.specs.declared.Fault.{Fault}
+use Rattle.refusal.specs.Faults.{result_of}
+use Rattle.refusal.specs.Tests.{first}
+use Rattle.refusal.proofs.FaultLaws.{handed_on, went_on}
 use Rattle.record.specs.Fields.{width, widths}
 use Rattle.record.specs.Layouts.{loop, kind_of, is_loop, is_lasso, variable_count, row_count, rows_of, counts, layout, length_of, ahead, listed}
 use Rattle.record.specs.Ranges.{variables, rows, within}
-use Rattle.record.specs.Readers.{Reader, kind_number, kind, counts_read, fields, list_start, arguments_fit, loop_reader}
+use Rattle.record.specs.Readers.{Reader, kind_number, kind, counts_read, fields, list_start, arguments_fit, sound, loop_reader}
 use Rattle.record.proofs.KindLaws.{loop_known}
 use Rattle.record_fields.specs.Runs.{fault}
 use Rattle.record_fields.proofs.FirstFaults.{fault_none, fault_next, fault_here}
-use Rattle.record_check.specs.Checks.{refusal, checks, Framed, ended}
+use Rattle.record_check.specs.Checks.{said, checks, Framed, ended}
+use Rattle.record_check.proofs.FrameWays.{stopped, right, refusal}
 use Rattle.record_check.proofs.BodyWays.{no_counts, bad_count, bad_length, values_told, count_fits}
 
 module _ (bytes : List ℕ) (f : Framed bytes) (is : little_at 2 bytes 4 ≡ 1) where
@@ -80,9 +86,21 @@ module _ (bytes : List ℕ) (f : Framed bytes) (is : little_at 2 bytes 4 ≡ 1) 
         unfolding fields list_start listed ahead layout counts is_loop widths width variable_count row_count
         loop_list = rw (loop_kind, loop_read)
 
-        pub loop_values : length bytes ≡ 10 + m * (4 * n + 4) → (at : ℕ) → at ≡ fault (rows_of n m) bytes 10
-            → ended at (length bytes) 1 n m 0 ≡ checks (loop_reader bytes [])
-        unfolding loop_reader the_loop kind_number
-        loop_values h at told =
-            rw (is, loop_read) at
-            (values_told the_loop f loop_wanted loop_arguments loop_there loop_counts (h ∙ sym loop_formula) (loop_known _ loop_wanted) at (told ∙ sym loop_list))
+        module _ (formula : length bytes ≡ 10 + m * (4 * n + 4)) (at : ℕ) (told : at ≡ fault (rows_of n m) bytes 10) where
+          loop_values : first sound the_loop ≡ ended at (length bytes)
+          unfolding the_loop loop_reader
+          loop_values =
+              rw (told, ← loop_list)
+              (values_told the_loop f loop_wanted loop_arguments loop_there loop_counts (formula ∙ sym loop_formula) (loop_known _ loop_wanted))
+
+          loop_said : said the_loop ≡ record { kind = 1; n = n; m = m; ms = 0 }
+          unfolding said loop_reader the_loop kind_number
+          loop_said = rw (loop_read, is)
+
+          pub loop_out : (e : Fault) → stopped e ≡ result_of (ended at (length bytes)) tt → Err e ≡ checks (loop_reader bytes [])
+          unfolding checks loop_reader the_loop
+          loop_out e h = rw loop_values (handed_on (ended at (length bytes)) tt (said the_loop) e h)
+
+          pub loop_sound : right ≡ result_of (ended at (length bytes)) tt → Ok (record { kind = 1; n = n; m = m; ms = 0 }) ≡ checks (loop_reader bytes [])
+          unfolding checks loop_reader the_loop
+          loop_sound h = rw (loop_values, loop_said) (went_on (ended at (length bytes)) tt tt _ h)

@@ -1,7 +1,9 @@
 -- What a check answers: the tests `sound` of 01's order for a record, and what the record says of itself. No list is lent, so a check's
 -- reader has no room.
-use Rattle.std.specs.Prelude.{ℕ, ◌+◌, ◌≤◌, ◌≡◌, true, cond, ◌&&◌, List, ltb, pos, length}
+use Rattle.std.specs.Prelude.{ℕ, ◌+◌, ◌≤◌, ◌≡◌, true, cond, ◌&&◌, List, ltb, pos, length, Result}
 use Rattle.endian.specs.Numbers.{little_at}
+use Rattle.refusal.specs.declared.Fault.{Fault}
+use Rattle.refusal.specs.Faults.{result_of}
 use Rattle.refusal.specs.Tests.{Told, done, refused, first}
 use Rattle.record.specs.declared.Wanted.{Wanted}
 use Rattle.record.specs.Layouts.{Kind}
@@ -10,17 +12,12 @@ use Rattle.record.specs.Readers.{Reader, kind_number, counts_read, sound}
 use Rattle.record.specs.Wants.{wants_of}
 use Rattle.record_check.specs.declared.Checked.{Checked}
 
--- a refusal: all but number and place are 0
-abbrev pub refusal : ℕ → ℕ → Checked
-refusal number place = record { number = number; place = place; kind = 0; n = 0; m = 0; ms = 0 }
+-- what a record says of itself
+unfoldable pub said : Reader → Checked
+said r = record { kind = kind_number r; n = (counts_read r).n; m = (counts_read r).m; ms = (counts_read r).ms }
 
-unfoldable pub checked : Told → Reader → Checked
-checked done r =
-    record { number = 0; place = 0; kind = kind_number r; n = (counts_read r).n; m = (counts_read r).m; ms = (counts_read r).ms }
-checked (refused number place) r = refusal number place
-
-unfoldable pub checks : Reader → Checked
-checks r = checked (first sound r) r
+unfoldable pub checks : Reader → Result Checked Fault
+checks r = result_of (first sound r) (said r)
 
 -- what comes to a check of a certificate: the kinds that are wanted, its bytes, and n and m of its loop
 unfoldable pub certificate_check : Wanted → List ℕ → ℕ → ℕ → Reader
@@ -28,12 +25,7 @@ certificate_check wanted bytes n m = record { bytes = bytes; wants = wants_of wa
 
 -- ---- in parts
 
--- what the tests of L against the bytes tell
-unfoldable pub framed : Told → Checked
-framed done = refusal 0 0
-framed (refused number place) = refusal number place
-
--- bytes that meet them
+-- bytes that meet the tests of L against them
 pub record Framed (bytes : List ℕ) : Type 0 where
   pub head : 6 ≤ length bytes
   pub whole : length bytes ≡ 4 + little_at 4 bytes 0
@@ -45,9 +37,9 @@ pub record Opened (bytes : List ℕ) (number n m : ℕ) : Type 0 where
   pub arguments : (within variables (pos n) && within rows (pos m)) ≡ true
 
 -- what a check answers of a certificate of a kind, whatever else is wanted
-abbrev pub Answers : Kind → List ℕ → ℕ → ℕ → Checked → Type 0
+abbrev pub Answers : Kind → List ℕ → ℕ → ℕ → Result Checked Fault → Type 0
 Answers k bytes n m v = (wanted : Wanted) → wants_of wanted k ≡ true → v ≡ checks (certificate_check wanted bytes n m)
 
 -- the last test: a fault before the end, or none
-unfoldable pub ended : ℕ → ℕ → ℕ → ℕ → ℕ → ℕ → Checked
-ended at end kind n m ms = cond (ltb at end) (refusal 6 at) (record { number = 0; place = 0; kind = kind; n = n; m = m; ms = ms })
+unfoldable pub ended : ℕ → ℕ → Told
+ended at end = cond (ltb at end) (refused 6 at) done

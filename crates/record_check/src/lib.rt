@@ -3,41 +3,28 @@
 
 ghost use Rattle.std.specs.Prelude.{◌≡◌, true, false, []};
 ghost use Rattle.endian.specs.Numbers.{little_at};
+ghost use Rattle.refusal.specs.Faults.{result_of};
 ghost use Rattle.refusal.specs.Tests.{first};
 ghost use Rattle.record.specs.Layouts.{ranking, exclusion, lasso, kind_of};
 ghost use Rattle.record.specs.Readers.{framing, loop_reader};
 ghost use Rattle.record.specs.Wants.{wants_of};
-ghost use Rattle.record_check.specs.Checks.{refusal, checks, certificate_check, framed, Framed, Opened, Answers, ended};
+ghost use Rattle.record_check.specs.Checks.{checks, certificate_check, Framed, Opened, Answers, ended};
 
 use record::Wanted;
+use refusal::{Fault, refused};
 
-// What a check answers: on a sound record its kind and counts, and number 0; on a refusal all but number and place are 0.
-#[derive(Clone, Copy)]
+// What a check says of a sound record: its kind and its counts.
+#[derive(Clone, Copy, Debug, PartialEq, Eq)]
 pub struct Checked {
-    pub number: usize,
-    pub place: usize,
     pub kind: usize,
     pub n: usize,
     pub m: usize,
     pub ms: usize,
 }
 
-fn refused(number: usize, place: usize) -> Checked
-    ensures { result ≡ refusal number place }
-{
-    Checked {
-        number: number,
-        place: place,
-        kind: 0,
-        n: 0,
-        m: 0,
-        ms: 0,
-    }
-}
-
 // The length L against the bytes.
-pub fn frame(bytes: &[u8]) -> Checked
-    ensures { result ≡ framed (first framing (loop_reader bytes.now [])) }
+pub fn frame(bytes: &[u8]) -> Result<(), Fault>
+    ensures { result ≡ result_of (first framing (loop_reader bytes.now [])) tt }
 {
     let long = bytes.len();
     if long < 4 {
@@ -53,30 +40,22 @@ pub fn frame(bytes: &[u8]) -> Checked
     if 4 + stated < long {
         return refused(2, 4 + stated);
     }
-    refused(0, 0)
+    Ok(())
 }
 
 // The last test of a record: `at` is where its values have their first fault, `end` where they end.
-fn ends(at: usize, end: usize, kind: usize, n: usize, m: usize, ms: usize) -> Checked
-    ensures { result ≡ ended at end kind n m ms }
+fn ends(at: usize, end: usize) -> Result<(), Fault>
+    ensures { result ≡ result_of (ended at end) tt }
 {
     if at < end {
-        refused(6, at)
-    } else {
-        Checked {
-            number: 0,
-            place: 0,
-            kind: kind,
-            n: n,
-            m: m,
-            ms: ms,
-        }
+        return refused(6, at);
     }
+    Ok(())
 }
 
 // ---- the kinds: layout, length formula and value range of each. A caller that knows the frame and the kind asks for the rest alone
 
-pub fn loop_record(bytes: &[u8]) -> Checked
+pub fn loop_record(bytes: &[u8]) -> Result<Checked, Fault>
     requires fact_1 { Framed bytes.now }
     requires fact_2 { little_at 2 bytes.now 4 ≡ 1 }
     ensures { result ≡ checks (loop_reader bytes.now []) }
@@ -96,10 +75,16 @@ pub fn loop_record(bytes: &[u8]) -> Checked
     if end != 10 + m * (4 * n + 4) {
         return refused(3, 0);
     }
-    ends(record_faults::rows_fault(bytes, 10, n, m), end, 1, n, m, 0)
+    ends(record_faults::rows_fault(bytes, 10, n, m), end)?;
+    Ok(Checked {
+        kind: 1,
+        n,
+        m,
+        ms: 0,
+    })
 }
 
-pub fn ranking_record(bytes: &[u8], n: usize, m: usize) -> Checked
+pub fn ranking_record(bytes: &[u8], n: usize, m: usize) -> Result<Checked, Fault>
     requires { Opened bytes.now 2 n m }
     ensures { Answers ranking bytes.now n m result }
 {
@@ -107,17 +92,16 @@ pub fn ranking_record(bytes: &[u8], n: usize, m: usize) -> Checked
     if end != 6 + 4 * m {
         return refused(3, 0);
     }
-    ends(
-        record_faults::multipliers_fault(bytes, 6, 2 * m),
-        end,
-        2,
+    ends(record_faults::multipliers_fault(bytes, 6, 2 * m), end)?;
+    Ok(Checked {
+        kind: 2,
         n,
         m,
-        0,
-    )
+        ms: 0,
+    })
 }
 
-pub fn exclusion_record(bytes: &[u8], n: usize, m: usize) -> Checked
+pub fn exclusion_record(bytes: &[u8], n: usize, m: usize) -> Result<Checked, Fault>
     requires { Opened bytes.now 3 n m }
     ensures { Answers exclusion bytes.now n m result }
 {
@@ -125,10 +109,16 @@ pub fn exclusion_record(bytes: &[u8], n: usize, m: usize) -> Checked
     if end != 8 + 12 * n {
         return refused(3, 0);
     }
-    ends(record_faults::exclusion_fault(bytes, 6, n), end, 3, n, m, 0)
+    ends(record_faults::exclusion_fault(bytes, 6, n), end)?;
+    Ok(Checked {
+        kind: 3,
+        n,
+        m,
+        ms: 0,
+    })
 }
 
-pub fn lasso_record(bytes: &[u8], n: usize, m: usize) -> Checked
+pub fn lasso_record(bytes: &[u8], n: usize, m: usize) -> Result<Checked, Fault>
     requires { Opened bytes.now 4 n m }
     ensures { Answers lasso bytes.now n m result }
 {
@@ -143,26 +133,17 @@ pub fn lasso_record(bytes: &[u8], n: usize, m: usize) -> Checked
     if end != 22 + 2 * n + ms * (4 * n + 6) + 6 * m {
         return refused(3, 0);
     }
-    ends(
-        record_faults::lasso_fault(bytes, 8, n, m, ms),
-        end,
-        4,
-        n,
-        m,
-        ms,
-    )
+    ends(record_faults::lasso_fault(bytes, 8, n, m, ms), end)?;
+    Ok(Checked { kind: 4, n, m, ms })
 }
 
 // ---- the checks
 
 // Whether bytes are a sound loop record.
-pub fn check_loop(bytes: &[u8]) -> Checked
+pub fn check_loop(bytes: &[u8]) -> Result<Checked, Fault>
     ensures { result ≡ checks (loop_reader bytes.now []) }
 {
-    let head = frame(bytes);
-    if head.number != 0 {
-        return refused(head.number, head.place);
-    }
+    frame(bytes)?;
     match endian::u16_at(bytes, 4) {
         1 => loop_record(bytes),
         _ => refused(4, 4),
@@ -181,13 +162,10 @@ fn wants(wanted: Wanted, kind: usize) -> bool
 }
 
 // Whether bytes are a sound certificate record, of a kind that is wanted, for a loop over n variables with m rows.
-pub fn check_certificate(bytes: &[u8], n: usize, m: usize, wanted: Wanted) -> Checked
+pub fn check_certificate(bytes: &[u8], n: usize, m: usize, wanted: Wanted) -> Result<Checked, Fault>
     ensures { result ≡ checks (certificate_check wanted bytes.now n m) }
 {
-    let head = frame(bytes);
-    if head.number != 0 {
-        return refused(head.number, head.place);
-    }
+    frame(bytes)?;
     let kind = endian::u16_at(bytes, 4);
     if !wants(wanted, kind) {
         return refused(4, 4);
@@ -201,21 +179,4 @@ pub fn check_certificate(bytes: &[u8], n: usize, m: usize, wanted: Wanted) -> Ch
         4 => lasso_record(bytes, n, m),
         _ => refused(4, 4),
     }
-}
-
-// The same where kind 2 alone is wanted.
-pub fn check_ranking(bytes: &[u8], n: usize, m: usize) -> Checked
-    ensures { result ≡ checks (certificate_check (record { ranking = true; exclusion = false; lasso = false }) bytes.now n m) }
-{
-    let head = frame(bytes);
-    if head.number != 0 {
-        return refused(head.number, head.place);
-    }
-    if endian::u16_at(bytes, 4) != 2 {
-        return refused(4, 4);
-    }
-    if !record_faults::arguments_fit(n, m) {
-        return refused(5, 0);
-    }
-    ranking_record(bytes, n, m)
 }

@@ -32,3 +32,14 @@ module _ {A : Type 0} where
   pub refuses : {t : Told} {k p : ℕ} (a : A) → t ≡ refused k p → Err (record { number = k; place = p }) ≡ result_of t a
   unfolding result_of
   refuses a h = rw h
+
+-- what is told where one thing is given is told where another is: a refusal is handed on, and what goes on is done
+pub handed_on : {A B : Type 0} (t : Told) (a : A) (b : B) (f : Fault) → Err f ≡ result_of t a → Err f ≡ result_of t b
+unfolding result_of
+handed_on done a b f h = cc
+handed_on (refused k p) a b f h = cc
+
+pub went_on : {A B : Type 0} (t : Told) (a x : A) (b : B) → Ok x ≡ result_of t a → Ok b ≡ result_of t b
+unfolding result_of
+went_on done a x b h = refl
+went_on (refused k p) a x b h = cc
