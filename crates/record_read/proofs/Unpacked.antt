@@ -1,4 +1,5 @@
 -- Unpacking the record that a reader's check answered for is what the reader answers and what it leaves in the list.
+use Rattle.std.specs.Prelude.{Ok, Err}
 use mathlib.Core.Path.{◌≡◌, refl, sym, ◌∙◌}
 use Prim.Native.Nat.{ℕ, ◌≤◌, ◌<◌}
 use mathlib.Core.Bool.{cond}
@@ -9,6 +10,7 @@ use lib.IntN.{ℤ}
 use lib.ListN.{length, drop}
 use lib.Seq.{sets}
 use borrow.Author.Tests.{le-leb, lt-leb, le-ltb, lt-ltb, ne_eqb, eqb-true, eqb-false, ltb-true, ltb-false}
+use Rattle.refusal.specs.declared.Fault.{Fault}
 use Rattle.refusal.specs.Tests.{done, refused, first}
 use Rattle.refusal.proofs.TestLaws.{either, passed, failed, passes_done, done_passes, first_then, first_told}
 use Rattle.record.specs.Layouts.{kind_of, is_loop}
@@ -19,7 +21,7 @@ use Rattle.record.proofs.KindLaws.{no_loop}
 use Rattle.record_fields.proofs.Copies.{sets_front}
 use Rattle.record_fields.proofs.BodyParts.{count_law}
 use Rattle.record_check.specs.declared.Checked.{Checked}
-use Rattle.record_check.specs.Checks.{checked, checks}
+use Rattle.record_check.specs.Checks.{said, checks}
 use Rattle.record.proofs.SoundRecords.{counts_small}
 use Rattle.record_check.proofs.CheckAnswers.{accepted, accepted_is, refused_so, sound_record}
 use Rattle.record_values.specs.ListsHeld.{list_of}
@@ -27,33 +29,28 @@ use Rattle.record_read.specs.Unpacks.{refusal, counts_of, Sized, unpacked, unpac
 
 -- ---- the ways through `unpack`
 
-module _ (bytes : List ℕ) (v : Checked) (lent : List ℤ) where
-  pub pass_on : (v.number ≡ 0 → ⊥) → (refusal v.number v.place ≡ unpacked v lent) × (lent ≡ unpacks bytes v lent)
+module _ (bytes : List ℕ) (v : Checked) (lent : List ℤ) (count : ℕ) (is : count ≡ value_count (kind_of v.kind) (counts_of v)) where
+  pub no_places : length lent < count → (refusal 7 count ≡ unpacked v lent) × (lent ≡ unpacks bytes v lent)
   unfolding unpacked unpacks
-  pass_on some = rw (ne_eqb _ _ some) (refl, refl)
+  no_places h = rw (← is, lt-ltb _ _ h) (refl, refl)
 
-  module _ (zero : v.number ≡ 0) (count : ℕ) (is : count ≡ value_count (kind_of v.kind) (counts_of v)) where
-    pub no_places : length lent < count → (refusal 7 count ≡ unpacked v lent) × (lent ≡ unpacks bytes v lent)
+  module _ (enough : count ≤ length lent) (last : List ℤ) (filled_so : last ≡ sets lent 0 (list_of bytes v.kind (counts_of v))) where
+    list_size : length (list_of bytes v.kind (counts_of v)) ≡ count
+    unfolding list_of
+    list_size = length_values _ _ ∙ count_law (kind_of v.kind) (counts_of v) ∙ sym is
+
+    last_is : last ≡ list_of bytes v.kind (counts_of v) ++ drop count lent
+    last_is = filled_so ∙ rw (← list_size) (sets_front lent (list_of bytes v.kind (counts_of v)) (omega (arith, list_size)))
+
+    pub unpacked_loop : v.kind ≡ 1
+        → (record { number = 0; place = 0; kind = v.kind; n = v.n; m = v.m; count = count } ≡ unpacked v lent) × (last ≡ unpacks bytes v lent)
+    unfolding unpacked unpacks is_loop kind_of
+    unpacked_loop one = rw (← is, le-ltb _ _ enough, one) (refl, rw one at last_is)
+
+    pub unpacked_certificate : (v.kind ≡ 1 → ⊥)
+        → (record { number = 0; place = 0; kind = v.kind; n = 0; m = 0; count = count } ≡ unpacked v lent) × (last ≡ unpacks bytes v lent)
     unfolding unpacked unpacks
-    no_places h = rw (zero, ← is, lt-ltb _ _ h) (refl, refl)
-
-    module _ (enough : count ≤ length lent) (last : List ℤ) (filled_so : last ≡ sets lent 0 (list_of bytes v.kind (counts_of v))) where
-      list_size : length (list_of bytes v.kind (counts_of v)) ≡ count
-      unfolding list_of
-      list_size = length_values _ _ ∙ count_law (kind_of v.kind) (counts_of v) ∙ sym is
-
-      last_is : last ≡ list_of bytes v.kind (counts_of v) ++ drop count lent
-      last_is = filled_so ∙ rw (← list_size) (sets_front lent (list_of bytes v.kind (counts_of v)) (omega (arith, list_size)))
-
-      pub unpacked_loop : v.kind ≡ 1
-          → (record { number = 0; place = 0; kind = v.kind; n = v.n; m = v.m; count = count } ≡ unpacked v lent) × (last ≡ unpacks bytes v lent)
-      unfolding unpacked unpacks is_loop kind_of
-      unpacked_loop one = rw (zero, ← is, le-ltb _ _ enough, one) (refl, rw one at last_is)
-
-      pub unpacked_certificate : (v.kind ≡ 1 → ⊥)
-          → (record { number = 0; place = 0; kind = v.kind; n = 0; m = 0; count = count } ≡ unpacked v lent) × (last ≡ unpacks bytes v lent)
-      unfolding unpacked unpacks
-      unpacked_certificate other = rw (zero, ← is, le-ltb _ _ enough, no_loop v.kind other) (refl, last_is)
+    unpacked_certificate other = rw (← is, le-ltb _ _ enough, no_loop v.kind other) (refl, last_is)
 
 -- ---- a reader's record
 
@@ -96,23 +93,26 @@ module _ (r : Reader) (lent : List ℤ) (room_is : r.room ≡ length lent) where
     unfolding reads fills answer filled
     all_read h = rw (← list_long, room h) (refl, refl)
 
-  module _ (v : Checked) (is : v ≡ checks r) where
-    pub sized : v.number ≡ 0 → Sized r.bytes v
-    unfolding checked kind stated_length
-    sized zero =
-        let s = sound_record r v is zero in
+  -- a record that was checked: it is as long as it says, and unpacking it is what the reader does
+  module _ (v : Checked) (is : Ok v ≡ checks r) where
+    pub sized : Sized r.bytes v
+    unfolding said kind stated_length
+    sized =
+        let s = sound_record r v is in
         let small = counts_small r s in
-        rw (accepted_is r v is (accepted r v is zero))
+        rw (accepted_is r v is)
         (record { variables = small.0; rows = small.1; stem_rows = small.2; long = omega (arith, s.whole, s.formula) })
 
     pub unpack_reads : (unpacked v lent ≡ reads r) × (unpacks r.bytes v lent ≡ fills r lent)
-    unfolding unpacked unpacks checked kind list fields list_start list_of reading
+    unfolding unpacked unpacks said kind list fields list_start list_of reading
     unpack_reads =
-        either (eqb v.number 0)
-        (λ zero.
-        let told = accepted r v is (eqb-true _ _ zero) in
-        rw (accepted_is r v is told)
+        let told = accepted r v is in
+        rw (accepted_is r v is)
         (either (ltb (length lent) (value_count (kind r) (counts_read r)))
         (λ few. rw few (no_room told (ltb-true _ _ few)))
-        (λ enough. rw enough (all_read told (ltb-false _ _ enough)))))
-        (λ some. rw some (refuses (first_told sound enough_room r v.number v.place (refused_so r v is (eqb-false _ _ some)))))
+        (λ enough. rw enough (all_read told (ltb-false _ _ enough))))
+
+  -- and one that was refused
+  pub refused_reads : (f : Fault) → Err f ≡ checks r → (refusal f.number f.place ≡ reads r) × (lent ≡ fills r lent)
+  unfolding reading
+  refused_reads f is = refuses (first_told sound enough_room r f.number f.place (refused_so r f is))

@@ -1,5 +1,5 @@
 -- What a reading makes of a record that has been checked: the check's answer says which fields the list has and where it starts.
-use Rattle.std.specs.Prelude.{ℕ, ◌+◌, ◌≤◌, ◌≡◌, cond, List, ◌++◌, eqb, ltb, ℤ, length, drop}
+use Rattle.std.specs.Prelude.{ℕ, ◌+◌, ◌≤◌, ◌≡◌, cond, List, ◌++◌, ltb, ℤ, length, drop}
 use Rattle.record.specs.declared.Reading.{Reading}
 use Rattle.record.specs.Layouts.{kind_of, is_loop, Counts, length_of}
 use Rattle.record_fields.specs.Runs.{value_count}
@@ -23,8 +23,7 @@ pub record Sized (bytes : List ℕ) (v : Checked) : Type 0 where
 -- what is answered
 unfoldable pub unpacked : Checked → List ℤ → Reading
 unpacked v lent =
-    cond (eqb v.number 0)
-    (cond (ltb (length lent) (value_count (kind_of v.kind) (counts_of v)))
+    cond (ltb (length lent) (value_count (kind_of v.kind) (counts_of v)))
     (refusal 7 (value_count (kind_of v.kind) (counts_of v)))
     (record {
       number = 0;
@@ -33,14 +32,11 @@ unpacked v lent =
       n = cond (is_loop (kind_of v.kind)) v.n 0;
       m = cond (is_loop (kind_of v.kind)) v.m 0;
       count = value_count (kind_of v.kind) (counts_of v);
-    }))
-    (refusal v.number v.place)
+    })
 
 -- and what the list holds afterwards
 unfoldable pub unpacks : List ℕ → Checked → List ℤ → List ℤ
 unpacks bytes v lent =
-    cond (eqb v.number 0)
-    (cond (ltb (length lent) (value_count (kind_of v.kind) (counts_of v)))
+    cond (ltb (length lent) (value_count (kind_of v.kind) (counts_of v)))
     lent
-    (list_of bytes v.kind (counts_of v) ++ drop (value_count (kind_of v.kind) (counts_of v)) lent))
-    lent
+    (list_of bytes v.kind (counts_of v) ++ drop (value_count (kind_of v.kind) (counts_of v)) lent)

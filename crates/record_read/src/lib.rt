@@ -9,14 +9,13 @@ ghost use Rattle.record_read.specs.Unpacks.{refusal, Sized, unpacked, unpacks};
 use record::{Reading, Wanted};
 use record_check::Checked;
 
-// ---- the two readers
-
+// A refusal: all but number and place are 0.
 fn refused(number: usize, place: usize) -> Reading
     ensures { result ≡ refusal number place }
 {
     Reading {
-        number: number,
-        place: place,
+        number,
+        place,
         kind: 0,
         n: 0,
         m: 0,
@@ -24,52 +23,40 @@ fn refused(number: usize, place: usize) -> Reading
     }
 }
 
-// A record that has been checked: the refusal is passed on, or the list is filled.
+// A record that has been checked: a list that is too short is refused, any other is filled. n and m stand in a loop's record alone.
 fn unpack(bytes: &[u8], found: Checked, values: &mut [i64]) -> Reading
-    requires { found.number ≡ 0 → Sized bytes.now found }
+    requires { Sized bytes.now found }
     ensures value { result ≡ unpacked found values.old }
     ensures values_after { values.new ≡ unpacks bytes.now found values.old }
 {
-    if found.number != 0 {
-        return refused(found.number, found.place);
-    }
-    let kind = found.kind;
-    let n = found.n;
-    let m = found.m;
-    let ms = found.ms;
+    let Checked { kind, n, m, ms } = found;
     let count = record_fields::value_count(kind, n, m, ms);
     if values.len() < count {
         return refused(7, count);
     }
     record_values::read_list(bytes, kind, n, m, ms, values);
-    if kind == 1 {
-        Reading {
-            number: 0,
-            place: 0,
-            kind: kind,
-            n: n,
-            m: m,
-            count: count,
-        }
-    } else {
-        Reading {
-            number: 0,
-            place: 0,
-            kind: kind,
-            n: 0,
-            m: 0,
-            count: count,
-        }
+    let (n, m) = if kind == 1 { (n, m) } else { (0, 0) };
+    Reading {
+        number: 0,
+        place: 0,
+        kind,
+        n,
+        m,
+        count,
     }
 }
+
+// ---- the two readers
 
 // Reads a loop record: the first places of the list hold its rows afterwards.
 pub fn read_loop(bytes: &[u8], values: &mut [i64]) -> Reading
     ensures value { result ≡ reads (loop_reader bytes.now values.old) }
     ensures values_after { values.new ≡ fills (loop_reader bytes.now values.old) values.old }
 {
-    let found = record_check::check_loop(bytes);
-    unpack(bytes, found, values)
+    match record_check::check_loop(bytes) {
+        Ok(found) => unpack(bytes, found, values),
+        Err(fault) => refused(fault.number, fault.place),
+    }
 }
 
 // Reads a certificate record for a loop over n variables with m rows.
@@ -82,6 +69,8 @@ pub fn read_certificate(bytes: &[u8], n: usize, m: usize, values: &mut [i64]) ->
         exclusion: true,
         lasso: true,
     };
-    let found = record_check::check_certificate(bytes, n, m, wanted);
-    unpack(bytes, found, values)
+    match record_check::check_certificate(bytes, n, m, wanted) {
+        Ok(found) => unpack(bytes, found, values),
+        Err(fault) => refused(fault.number, fault.place),
+    }
 }
