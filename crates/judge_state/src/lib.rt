@@ -1,47 +1,32 @@
 // The tests of a state (01, "Numbers of the verdict": 10, then 9), for every call that takes one.
 #![tactic(auto)]
 
-ghost use Rattle.std.specs.Prelude.{◌≡◌};
-ghost use Rattle.refusal.specs.Faults.{fault_of};
+ghost use Rattle.std.specs.Prelude.{◌≡◌, not, position};
+ghost use Rattle.record.specs.Ranges.{state_entries, within};
+ghost use Rattle.refusal.specs.Faults.{result_of};
 ghost use Rattle.refusal.specs.Tests.{first};
-ghost use Rattle.verdict.specs.StateTests.{before_outside, state_tests};
+ghost use Rattle.verdict.specs.StateTests.{state_tests};
 
-use refusal::Fault;
+use refusal::{Fault, refused};
 
-// How many entries stand before the first that is out of range.
-fn before_outside(state: &[i64]) -> usize
-    ensures { result ≡ before_outside state.now }
+// The index of the first entry that is out of range.
+fn first_outside(state: &[i64]) -> Option<usize>
+    ensures { result ≡ position (λ z. not (within state_entries z)) state.now }
 {
-    let mut i = 0;
-    while i < state.len() {
-        if !record_list_faults::between(state[i], -1000000, 1000000) {
-            return i;
-        }
-        i += 1;
-    }
-    i
+    state
+        .iter()
+        .position(|z| !record_list_faults::between(*z, -1000000, 1000000))
 }
 
 // Tests a state for a loop of n variables.
-pub fn state_fault(state: &[i64], n: usize) -> Fault
-    ensures { result ≡ fault_of (first state_tests (record { n = n; state = state.now })) }
+pub fn state_fault(state: &[i64], n: usize) -> Result<(), Fault>
+    ensures { result ≡ result_of (first state_tests (record { n = n; state = state.now })) tt }
 {
-    let long = state.len();
-    if long != n {
-        return Fault {
-            number: 10,
-            place: long,
-        };
+    if state.len() != n {
+        return refused(10, state.len());
     }
-    let inside = before_outside(state);
-    if inside != long {
-        return Fault {
-            number: 9,
-            place: inside,
-        };
-    }
-    Fault {
-        number: 0,
-        place: 0,
+    match first_outside(state) {
+        Some(index) => refused(9, index),
+        None => Ok(()),
     }
 }
