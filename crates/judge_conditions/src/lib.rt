@@ -3,7 +3,7 @@
 #![tactic(auto)]
 
 ghost use Rattle.std.specs.Prelude.{◌≡◌, Bool, ℕ, ◌+◌, ◌≤◌, ◌<◌, pos, nat_abs, neg_ℤ, ◌*ℤ◌};
-ghost use Rattle.refusal.specs.Places.{before_failing};
+ghost use Rattle.judge_conditions.specs.Remembered.{first_failing};
 
 // A count or multiplier times a right side or an entry.
 pub fn times(k: usize, z: i64) -> i64
@@ -21,17 +21,10 @@ pub fn minus(z: i64) -> i64
     -z
 }
 
-// One place more for a condition that is asked at each, while a loop goes on to look for an earlier one: how many places come before
-// the first that fails, out of how many came before it among the first i, and whether place i holds.
-pub fn remember(late: usize, i: usize, holds: bool) -> usize
-    requires { i < 65536 }
-    ensures { (test : ℕ → Bool) → late ≡ before_failing i test → holds ≡ test i → result ≡ before_failing (i + 1) test }
+// One place more for a condition that is asked at each, while a loop goes on to look for an earlier one: where it fails first, out of where
+// it did among the first i places, and whether place i holds.
+pub fn remember(late: Option<usize>, i: usize, holds: bool) -> Option<usize>
+    ensures { (test : ℕ → Bool) → late ≡ first_failing i test → holds ≡ test i → result ≡ first_failing (i + 1) test }
 {
-    if !holds {
-        return late;
-    }
-    if late != i {
-        return late;
-    }
-    i + 1
+    if holds { late } else { late.or(Some(i)) }
 }
