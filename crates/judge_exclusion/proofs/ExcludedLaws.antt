@@ -1,7 +1,8 @@
 -- Exclusions row by row: the left sides that crate `judge_along` gives are those of the theory, and a walk over the rows tells what their
 -- order of tests does.
+use Rattle.std.specs.Prelude.{Option, Some, None}
 use mathlib.Core.Path.{◌≡◌, sym, ap, ap₂, ◌∙◌}
-use Prim.Native.Nat.{ℕ, ◌+◌, ◌*◌, ◌≤◌, ◌<◌}
+use Prim.Native.Nat.{ℕ, ◌+◌, ◌*◌, ◌<◌}
 use mathlib.Core.Bool.{Bool, true, false}
 use mathlib.Core.List.{List, []}
 use lib.IntN.{ℤ, pos, ◌*ℤ◌}
@@ -10,8 +11,8 @@ use mir.Syntax.{w64}
 use mir.Val.{of_z, to_z}
 use mir.Facts.{to_z-of_z}
 use Rattle.refusal.specs.Tests.{Told, done, refused, ◌then◌}
-use Rattle.refusal.specs.Places.{Throughout, before_failing, told_each}
-use Rattle.refusal.proofs.PlaceLaws.{before_all, before_first, told_same, told_none, told_at, told_past}
+use Rattle.refusal.specs.Places.{Throughout, told_each}
+use Rattle.refusal.proofs.PlaceLaws.{before_all, before_first, told_same, told_none, told_at}
 use Rattle.whole.proofs.Tables.{length_tabulate, tabulate_at}
 use Rattle.endian.specs.Numbers.{little_at}
 use Rattle.judge_sums.specs.Lists.{row_from, rows_from}
@@ -22,6 +23,8 @@ use Rattle.judge_along.proofs.AlongLists.{direction_dot, step_dot}
 use Rattle.theory.specs.Conditions.{exclusion_told}
 use Rattle.theory.proofs.InOrder.{exclusion_in_order}
 use Rattle.judge_conditions.specs.LoopHeld.{loop_held}
+use Rattle.judge_conditions.specs.Remembered.{first_failing}
+use Rattle.judge_conditions.proofs.RememberedLaws.{told_nothing, told_remembered}
 use Rattle.judge_conditions.proofs.Totals.{grown_fits}
 use Rattle.judge_exclusion.specs.ExclusionHeld.{stays, meets, exclusion_held}
 
@@ -67,11 +70,12 @@ module _ (rows certificate : List ℕ) (start n m : ℕ) where
   direction_told i below fails before = in_order ∙ rw (told_at 31 m stays_at i (sym (before_first m stays_at i below fails before)) below)
 
   -- one that went to the end
-  module _ (all : Throughout m (λ k. stays_at k ≡ true)) (late : ℕ) (is : late ≡ before_failing m meets_at) where
-    pub step_told : late < m → exclusion_told (loop_held rows start n m) (exclusion_held certificate n) ≡ refused 32 late
+  module _ (all : Throughout m (λ k. stays_at k ≡ true)) (late : Option ℕ) (is : late ≡ first_failing m meets_at) where
+    pub step_told : (place : ℕ) → late ≡ Some place → exclusion_told (loop_held rows start n m) (exclusion_held certificate n) ≡ refused 32 place
     unfolding ◌then◌
-    step_told below = in_order ∙ rw (told_none 31 m stays_at (before_all m stays_at all)) (told_at 32 m meets_at late is below)
+    step_told place found =
+        in_order ∙ rw (told_none 31 m stays_at (before_all m stays_at all)) (told_remembered m meets_at 32 place (sym found ∙ is))
 
-    pub none_told : m ≤ late → exclusion_told (loop_held rows start n m) (exclusion_held certificate n) ≡ done
+    pub none_told : late ≡ None → exclusion_told (loop_held rows start n m) (exclusion_held certificate n) ≡ done
     unfolding ◌then◌
-    none_told past = in_order ∙ rw (told_none 31 m stays_at (before_all m stays_at all)) (told_past 32 m meets_at late is past)
+    none_told found = in_order ∙ rw (told_none 31 m stays_at (before_all m stays_at all)) (told_nothing m meets_at 32 (sym found ∙ is))

@@ -4,7 +4,7 @@
 #![tactic(auto)]
 
 ghost use Rattle.std.specs.Prelude.{◌≡◌, ◌+◌, ◌*◌, ◌≤◌, length};
-ghost use Rattle.refusal.specs.Faults.{fault_of};
+ghost use Rattle.refusal.specs.Faults.{result_of};
 ghost use Rattle.theory.specs.Conditions.{exclusion_told};
 ghost use Rattle.judge_sums.specs.Places.{RowsIn};
 ghost use Rattle.judge_sums.specs.Lists.{row_from};
@@ -38,32 +38,29 @@ fn row_holds(rows: &[u8], row: usize, n: usize, certificate: &[u8]) -> RowHolds
 }
 
 // Kind 3: the first row that fails, by the direction before the step.
-pub fn exclusion(rows: &[u8], start: usize, n: usize, m: usize, certificate: &[u8]) -> Fault
+pub fn exclusion(
+    rows: &[u8],
+    start: usize,
+    n: usize,
+    m: usize,
+    certificate: &[u8],
+) -> Result<(), Fault>
     requires { RowsIn rows.now start n m × (n ≤ 16) × (8 + 12 * n ≤ length certificate.now) }
-    ensures { result ≡ fault_of (exclusion_told (loop_held rows.now start n m) (exclusion_held certificate.now n)) }
+    ensures { result ≡ result_of (exclusion_told (loop_held rows.now start n m) (exclusion_held certificate.now n)) tt }
 {
     let stride = 4 * n + 4;
     let mut at = start;
-    let mut late = 0;
+    let mut late = None;
     for i in 0..m {
         let holds = row_holds(rows, at, n, certificate);
         if !holds.direction {
-            return Fault {
-                number: 31,
-                place: i,
-            };
+            return refusal::refused(31, i);
         }
         late = judge_conditions::remember(late, i, holds.step);
         at += stride;
     }
-    if late < m {
-        return Fault {
-            number: 32,
-            place: late,
-        };
-    }
-    Fault {
-        number: 0,
-        place: 0,
+    match late {
+        Some(place) => refusal::refused(32, place),
+        None => Ok(()),
     }
 }
