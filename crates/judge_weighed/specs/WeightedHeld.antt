@@ -1,20 +1,21 @@
 -- The weighted rows that bytes hold by their places: `count` rows over n variables from `start` on, their multipliers and the entries of v
--- in a certificate, from a place on each; and the factors and the limit that they are held to, which come as values.
-use Rattle.std.specs.Prelude.{ℕ, Bool, ◌≡◌, List, ℤ}
+-- in a certificate; and the factors and the limit that they are held to, which come as values.
+use Rattle.std.specs.Prelude.{ℕ, Bool, ◌≡◌, List}
 use Rattle.judge_sums.specs.Lists.{multipliers_from, entries_from, rows_from}
 use Rattle.theory.specs.Loops.{A, A'}
 use Rattle.theory.specs.WeightedRows.{Weighted, sum_of, times_v}
 use Rattle.whole.specs.Same.{same_z}
+use Rattle.judge_weighed.specs.declared.Held.{Held}
 
-unfoldable pub weighted_held : List ℕ → ℕ → ℕ → ℕ → List ℕ → ℕ → ℕ → ℤ → ℤ → ℤ → Weighted
-weighted_held rows start n count certificate place v h k limit =
+unfoldable pub weighted_held : List ℕ → ℕ → ℕ → ℕ → List ℕ → Held → Weighted
+weighted_held rows start n count certificate held =
     record {
       rows = rows_from rows n start count;
-      weights = multipliers_from certificate place count;
-      v = entries_from certificate v n;
-      now = h;
-      next = k;
-      limit = limit;
+      weights = multipliers_from certificate held.weights count;
+      v = entries_from certificate held.v n;
+      now = held.now;
+      next = held.next;
+      limit = held.limit;
     }
 
 -- the tests of column j: over A, and over A'

@@ -3,8 +3,8 @@
 // those of sound records; the first column that fails over A ends the walk, and the first that fails over A' is remembered.
 #![tactic(auto)]
 
-ghost use Rattle.std.specs.Prelude.{◌≡◌, ◌+◌, ◌*◌, ◌≤◌, ◌<◌, ℤ, nat_abs, ◌*ℤ◌, length};
-ghost use Rattle.refusal.specs.Faults.{fault_of};
+ghost use Rattle.std.specs.Prelude.{◌≡◌, ◌+◌, ◌*◌, ◌≤◌, ◌<◌, nat_abs, ◌*ℤ◌, length};
+ghost use Rattle.refusal.specs.Faults.{result_of};
 ghost use Rattle.theory.specs.Conditions.{weighed_told};
 ghost use Rattle.judge_sums.specs.Places.{RowsIn, MultipliersIn};
 ghost use Rattle.judge_weighed.specs.WeightedHeld.{weighted_held, TestedAt};
@@ -19,6 +19,17 @@ fn times_entry(factor: i64, entry: i64) -> i64
     factor * entry
 }
 
+// What weighted rows are held to, by places in the certificate: their weights and the entries of v each stand from one on. Over A they are to
+// sum to `now` times v, over A' to `next` times v, and their right sides to no more than the limit.
+#[derive(Clone, Copy)]
+pub struct Held {
+    pub weights: usize,
+    pub v: usize,
+    pub now: i64,
+    pub next: i64,
+    pub limit: i64,
+}
+
 // Whether one column's sums are what they are held to: over A, and over A'.
 #[derive(Clone, Copy)]
 struct ColumnHolds {
@@ -26,7 +37,7 @@ struct ColumnHolds {
     next: bool,
 }
 
-// The same, of column j: h times v over A, k times v over A'.
+// The same, of column j.
 fn column_holds(
     rows: &[u8],
     start: usize,
@@ -34,23 +45,20 @@ fn column_holds(
     count: usize,
     j: usize,
     certificate: &[u8],
-    place: usize,
-    v: usize,
-    h: i64,
-    k: i64,
+    held: Held,
 ) -> ColumnHolds
-    requires { RowsIn rows.now start n count × (j < n) × (count ≤ 64) × MultipliersIn certificate.now place count
-        × (v + 2 * n ≤ length certificate.now) × (v < 65536) × (n ≤ 16) × (nat_abs h ≤ 65535) × (nat_abs k ≤ 65535) }
-    ensures { (limit : ℤ) → TestedAt result.now result.next j
-        (weighted_held rows.now start n count certificate.now place v h k limit) }
+    requires { RowsIn rows.now start n count × (j < n) × (count ≤ 64) × MultipliersIn certificate.now held.weights count
+        × (held.v + 2 * n ≤ length certificate.now) × (held.v < 65536) × (n ≤ 16)
+        × (nat_abs held.now ≤ 65535) × (nat_abs held.next ≤ 65535) }
+    ensures { TestedAt result.now result.next j (weighted_held rows.now start n count certificate.now held) }
 {
-    let column = judge_sums::column_of(rows, start, n, j, certificate, place, count);
-    let entry = endian::i16_at(certificate, v + 2 * j);
+    let column = judge_sums::column_of(rows, start, n, j, certificate, held.weights, count);
+    let entry = endian::i16_at(certificate, held.v + 2 * j);
     let over = column.now;
     let then = column.next;
     ColumnHolds {
-        now: over.sum == times_entry(h, entry),
-        next: then.sum == times_entry(k, entry),
+        now: over.sum == times_entry(held.now, entry),
+        next: then.sum == times_entry(held.next, entry),
     }
 }
 
@@ -61,45 +69,29 @@ pub fn weighed(
     n: usize,
     count: usize,
     certificate: &[u8],
-    place: usize,
-    v: usize,
-    h: i64,
-    k: i64,
-    limit: i64,
+    held: Held,
     number: usize,
-) -> Fault
-    requires { RowsIn rows.now start n count × (count ≤ 64) × MultipliersIn certificate.now place count
-        × (v + 2 * n ≤ length certificate.now) × (v < 65536) × (n ≤ 16) × (nat_abs h ≤ 65535) × (nat_abs k ≤ 65535)
-        × (number < 65536) }
-    ensures { result ≡ fault_of (weighed_told number (number + 1) (number + 2) n
-        (weighted_held rows.now start n count certificate.now place v h k limit)) }
+) -> Result<(), Fault>
+    requires { RowsIn rows.now start n count × (count ≤ 64) × MultipliersIn certificate.now held.weights count
+        × (held.v + 2 * n ≤ length certificate.now) × (held.v < 65536) × (n ≤ 16)
+        × (nat_abs held.now ≤ 65535) × (nat_abs held.next ≤ 65535) × (number < 65536) }
+    ensures { result ≡ result_of (weighed_told number (number + 1) (number + 2) n
+        (weighted_held rows.now start n count certificate.now held)) tt }
 {
-    let mut late = 0;
+    let mut late = None;
     for j in 0..n {
-        let holds = column_holds(rows, start, n, count, j, certificate, place, v, h, k);
+        let holds = column_holds(rows, start, n, count, j, certificate, held);
         if !holds.now {
-            return Fault {
-                number: number,
-                place: j,
-            };
+            return refusal::refused(number, j);
         }
         late = judge_conditions::remember(late, j, holds.next);
     }
-    if late < n {
-        return Fault {
-            number: number + 1,
-            place: late,
-        };
+    if let Some(place) = late {
+        return refusal::refused(number + 1, place);
     }
-    let right = judge_sums::right_of(rows, start, n, certificate, place, count);
-    if limit < right.sum {
-        return Fault {
-            number: number + 2,
-            place: 0,
-        };
+    let right = judge_sums::right_of(rows, start, n, certificate, held.weights, count);
+    if held.limit < right.sum {
+        return refusal::refused(number + 2, 0);
     }
-    Fault {
-        number: 0,
-        place: 0,
-    }
+    Ok(())
 }
