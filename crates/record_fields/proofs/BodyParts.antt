@@ -2,7 +2,8 @@
 -- part ends; and how many values a list has.
 use mathlib.Core.Path.{◌≡◌, refl, sym, ap, ◌∙◌}
 use Prim.Native.Nat.{ℕ, zero, suc, ◌+◌, ◌*◌}
-use mathlib.Core.List.{[], ◌∷◌, ◌++◌, append_assoc}
+use mathlib.Core.List.{[], ◌∷◌, ◌++◌, append_assoc, append-nil}
+use native.Mathlib.Nat.{zero-add, suc-add}
 use native.Mathlib.Omega.{arith}
 use lib.ListN.{length, replicate, replicate-append-replicate, length-append, length-replicate}
 use Rattle.record.specs.Fields.{width, Field, widths}
@@ -63,6 +64,16 @@ pub length_rows : (n m : ℕ) → length (rows_of n m) ≡ m * (2 * n + 1)
 unfolding rows_of
 length_rows n zero = omega arith
 length_rows n (suc m) = rw (length-append, length_row n, length_rows n m) (omega arith)
+
+pub rows_add : (n k l : ℕ) → rows_of n (k + l) ≡ rows_of n k ++ rows_of n l
+unfolding rows_of
+rows_add n zero l = ap (rows_of n) (zero-add l)
+rows_add n (suc k) l = rw (suc-add k l, append_assoc, rows_add n k l)
+
+-- one row more, the last
+pub rows_more : (n k : ℕ) → rows_of n (k + 1) ≡ rows_of n k ++ row n
+unfolding rows_of
+rows_more n k = rows_add n k 1 ∙ ap (λ fs. rows_of n k ++ fs) (append-nil (row n))
 
 pub count_law : (k : Kind) (c : Counts) → length (listed k c) ≡ value_count k c
 unfolding listed is_loop counts layout value_count

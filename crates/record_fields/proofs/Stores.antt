@@ -2,13 +2,13 @@
 use mathlib.Core.Path.{◌≡◌, refl, sym, ap, ◌∙◌}
 use Prim.Native.Nat.{ℕ, zero, suc, ◌+◌, ◌*◌, ◌-◌, ◌≤◌, ◌<◌}
 use mathlib.Core.Bool.{true}
-use mathlib.Core.List.{List, [], ◌∷◌, ◌++◌, append_assoc}
-use native.Mathlib.Numerals.{add-one}
+use mathlib.Core.List.{List, [], ◌∷◌, ◌++◌, append_assoc, append-nil}
+use native.Mathlib.Nat.{suc-add, suc-mul, mul-le-mul_right}
 use native.Mathlib.Omega.{arith}
 use lib.Dec.{T}
 use lib.IntN.{ℤ, pos, negsuc, nat_abs}
 use lib.ListN.{length, take, drop, get_or, replicate, length-append, length-drop, length-replicate}
-use lib.Seq.{sets, sets-eq, drop-cons, drop-drop}
+use lib.Seq.{sets, sets-eq, drop-drop, get_or-drop}
 use lib.Signed.{non_neg}
 use borrow.Author.Tests.{ltb-true}
 use Rattle.refusal.proofs.TestLaws.{both_true, true_both}
@@ -16,11 +16,11 @@ use Rattle.record.specs.Fields.{Form, u16, width, stored, holds, Field, widths, 
 use Rattle.record.specs.Layouts.{row, rows_of}
 use Rattle.record.specs.Ranges.{within}
 use Rattle.record.proofs.FieldLaws.{length_stored, field_holds}
-use Rattle.record.proofs.Lengths.{widths_row}
-use Rattle.record_fields.specs.Runs.{stores, all_held}
-use Rattle.record_fields.proofs.Copies.{Copy, copy_start, copy_there, copy_more, copy_end, sets_append}
+use Rattle.record.proofs.Lengths.{widths_rows}
+use Rattle.record_fields.specs.Runs.{linear, stores, all_held}
+use Rattle.record_fields.proofs.Copies.{sets_append, sets_both}
 use Rattle.record_fields.proofs.Forms.{Formed, formed_replicate}
-use Rattle.record_fields.proofs.BodyParts.{length_row}
+use Rattle.record_fields.proofs.BodyParts.{row_is, rows_add, rows_more, length_row, length_rows}
 
 -- ---- one form
 
@@ -68,19 +68,39 @@ in_range_split (f ∷ fs) gs (z ∷ zs) long fit =
 
 -- ---- one value more of a run, from an index of a list on
 
-module _ (form : Form) (count : ℕ) (zs : List ℤ) (index : ℕ) (there : index < length zs) where
-  next : drop index zs ≡ get_or zs index (pos 0) ∷ drop 1 (drop index zs)
-  next = drop-cons zs index (pos 0) there ∙ ap (λ k. get_or zs index (pos 0) ∷ k) (ap (λ k. drop k zs) (sym (add-one index)) ∙ sym (drop-drop 1 index zs))
+-- a form that holds each value of a run holds one of them
+pub held_at : (form : Form) (count : ℕ) (zs : List ℤ) (k : ℕ) → k < count → k < length zs → all_held form count zs ≡ true → holds form (get_or zs k (pos 0)) ≡ true
+unfolding all_held
+held_at form zero zs k within there h = absurd (omega arith)
+held_at form (suc count) [] k within there h = absurd (omega arith)
+held_at form (suc count) (z ∷ zs) zero within there h = (both_true (holds form z) (all_held form count zs) h).0
+held_at form (suc count) (z ∷ zs) (suc k) within there h = held_at form count zs k (omega arith) (omega arith) (both_true (holds form z) (all_held form count zs) h).1
 
-  pub stores_more : stores form (suc count) (drop index zs) ≡ stored form (get_or zs index (pos 0)) ++ stores form count (drop 1 (drop index zs))
-  unfolding stores
-  stores_more = ap (stores form (suc count)) next
+pub stores_more : (form : Form) (k : ℕ) (zs : List ℤ) → k < length zs → stores form (k + 1) zs ≡ stores form k zs ++ stored form (get_or zs k (pos 0))
+unfolding stores
+stores_more form k [] there = absurd (omega arith)
+stores_more form zero (z ∷ zs) there = append-nil (stored form z)
+stores_more form (suc k) (z ∷ zs) there = rw (suc-add k 1, append_assoc, stores_more form k zs (omega arith)) refl
 
-  pub held_more : all_held form (suc count) (drop index zs) ≡ true → (holds form (get_or zs index (pos 0)) ≡ true) × (all_held form count (drop (index + 1) zs) ≡ true)
-  unfolding all_held
-  held_more h =
-      let both = both_true (holds form (get_or zs index (pos 0))) (all_held form count (drop 1 (drop index zs))) (sym (ap (all_held form (suc count)) next) ∙ h) in
-      (both.0, rw (drop-drop 1 index zs) at both.1)
+pub length_stores : (form : Form) (k : ℕ) (zs : List ℤ) → k ≤ length zs → length (stores form k zs) ≡ k * width form
+unfolding stores
+length_stores form zero zs there = omega arith
+length_stores form (suc k) [] there = absurd (omega arith)
+length_stores form (suc k) (z ∷ zs) there = rw (length-append, length_stored form z, length_stores form k zs (omega arith), suc-mul) (omega arith)
+
+module _ (form : Form) (wide k : ℕ) (zs : List ℤ) (index count place : ℕ) (room now : List ℕ) (sized : width form ≡ wide) (within : k < count) (there : index + count ≤ length zs) where
+  pub value_held : all_held form count (drop index zs) ≡ true → holds form (get_or zs (index + k) (pos 0)) ≡ true
+  value_held h =
+      let here : k < length (drop index zs) = rw length-drop (omega arith) in
+      rw get_or-drop at (held_at form count (drop index zs) k within here h)
+
+  pub write_more : {last : List ℕ} → now ≡ sets room place (stores form k (drop index zs)) → last ≡ sets now (place + k * wide) (stored form (get_or zs (index + k) (pos 0)))
+      → last ≡ sets room place (stores form (k + 1) (drop index zs))
+  write_more so_far put =
+      let here : k < length (drop index zs) = rw length-drop (omega arith) in
+      let long : length (stores form k (drop index zs)) ≡ k * wide = length_stores form k (drop index zs) (omega arith) ∙ ap (λ w. k * w) sized in
+      rw (stores_more form k (drop index zs) here, get_or-drop)
+      (sets_both room place (place + k * wide) (stores form k (drop index zs)) (stored form (get_or zs (index + k) (pos 0))) so_far put (ap (λ w. place + w) (sym long)))
 
 -- a u16 holds no negative number
 pub held_u16 : (z : ℤ) → holds u16 z ≡ true → T (non_neg z) × (nat_abs z < 65536)
@@ -91,46 +111,6 @@ held_u16 (negsuc k) h = let wrong : ◌≡◌ {A = ℕ} 0 1 = cc in absurd (omeg
 -- bytes put at a place
 pub put_is : (room bytes : List ℕ) (place wide : ℕ) → length bytes ≡ wide → place + wide ≤ length room → take place room ++ bytes ++ drop (place + wide) room ≡ sets room place bytes
 put_is room bytes place wide long fits = rw (← long) (sym (sets-eq bytes room place (omega arith)))
-
--- ---- a run stored value by value, from an index of a list on, into a room from a place on
-
-module _ (form : Form) (wide : ℕ) (zs : List ℤ) (index count : ℕ) (room : List ℕ) (place : ℕ) where
-  pub record Storing (now : List ℕ) (i at left : ℕ) : Type 0 where
-    pub copy : Copy (stores form) 1 wide zs index count room place now i at left
-    pub held : all_held form left (drop i zs) ≡ true
-
-  pub storing_start : all_held form count (drop index zs) ≡ true → Storing room index place count
-  storing_start h = record { copy = copy_start (stores form) 1 wide zs index count room place; held = h }
-
-module _ {form : Form} {wide : ℕ} {zs : List ℤ} {index count : ℕ} {room : List ℕ} {place : ℕ} {now : List ℕ} {i at left : ℕ} (s : Storing form wide zs index count room place now i at left) where
-  -- a value that is to come is there, and so is its room
-  pub storing_there : 0 < left → index + count ≤ length zs → place + count * wide ≤ length room → (i < length zs) × (at + wide ≤ length now)
-  storing_there some enough fits =
-      let both = copy_there s.copy some (omega arith) fits in
-      (omega (arith, both.0), both.1)
-
-  module _ (some : 0 < left) (there : i < length zs) where
-    one_held : all_held form (suc (left - 1)) (drop i zs) ≡ true
-    one_held = let one : suc (left - 1) ≡ left = omega arith in rw one s.held
-
-    pub storing_held : holds form (get_or zs i (pos 0)) ≡ true
-    storing_held = (held_more form (left - 1) zs i there one_held).0
-
-    -- once its bytes are put
-    pub storing_more : {then : List ℕ} → width form ≡ wide → at + wide ≤ length now → then ≡ take at now ++ stored form (get_or zs i (pos 0)) ++ drop (at + wide) now
-        → Storing form wide zs index count room place then (i + 1) (at + wide) (left - 1)
-    storing_more sized fits put =
-        let z = get_or zs i (pos 0) in
-        let long = length_stored form z ∙ sized in
-        rw (put ∙ put_is now (stored form z) at wide long fits)
-        (record {
-          copy = copy_more s.copy (stored form z) some (stores_more form (left - 1) zs i there) long;
-          held = (held_more form (left - 1) zs i there one_held).1;
-        })
-
-  pub storing_end : left ≡ 0 → now ≡ sets room place (stores form count (drop index zs))
-  unfolding stores
-  storing_end none = copy_end s.copy none refl
 
 -- ---- parts, one after another
 
@@ -164,38 +144,29 @@ module _ (fs gs : List Field) (zs : List ℤ) (index next : ℕ) (from : next �
 
 -- ---- rows stored one after another
 
-module _ (n : ℕ) (zs : List ℤ) (index count : ℕ) (room : List ℕ) (place : ℕ) where
-  pub record StoringRows (now : List ℕ) (i at left : ℕ) : Type 0 where
-    pub copy : Copy (λ k. bytes_of (rows_of n k)) (2 * n + 1) (4 * n + 4) zs index count room place now i at left
-    pub fit : in_range (rows_of n left) (drop i zs) ≡ true
+module _ (n k : ℕ) (zs : List ℤ) (index count : ℕ) (within : k < count) (there : index + count * (2 * n + 1) ≤ length zs) where
+  row_there : index + k * (2 * n + 1) + (2 * n + 1) ≤ length zs
+  row_there = let more : (k + 1) * (2 * n + 1) ≤ count * (2 * n + 1) = mul-le-mul_right (2 * n + 1) (omega arith) in omega (arith, more)
 
-  pub rows_start : in_range (rows_of n count) (drop index zs) ≡ true → StoringRows room index place count
-  rows_start h = record { copy = copy_start (λ k. bytes_of (rows_of n k)) (2 * n + 1) (4 * n + 4) zs index count room place; fit = h }
+  rows_there : index + length (rows_of n k) ≤ length zs
+  rows_there = omega (arith, length_rows n k, row_there)
 
-module _ {n : ℕ} {zs : List ℤ} {index count : ℕ} {room : List ℕ} {place : ℕ} {now : List ℕ} {i at left : ℕ} (s : StoringRows n zs index count room place now i at left) where
-  module _ (some : 0 < left) (there : i + (2 * n + 1) ≤ length zs) where
-    row_there : i + length (row n) ≤ length zs
-    row_there = rw (length_row n) there
+  next_row : index + k * (2 * n + 1) ≡ index + length (rows_of n k)
+  next_row = omega (arith, length_rows n k)
 
-    rows_both : (in_range (row n) (drop i zs) ≡ true) × (in_range (rows_of n (left - 1)) (drop (i + (2 * n + 1)) zs) ≡ true)
-    unfolding rows_of
-    rows_both =
-        let one : left ≡ suc (left - 1) = omega arith in
-        in_range_both (row n) (rows_of n (left - 1)) zs i (i + (2 * n + 1)) (ap (λ k. i + k) (sym (length_row n))) row_there (rw one at s.fit)
+  pub row_fits : in_range (rows_of n count) (drop index zs) ≡ true → in_range (linear (2 * n)) (drop (index + k * (2 * n + 1)) zs) ≡ true
+  unfolding rows_of
+  row_fits h =
+      let next = index + k * (2 * n + 1) in
+      let split : count ≡ k + suc (count - suc k) = omega arith in
+      let last = in_range_both (rows_of n k) (rows_of n (suc (count - suc k))) zs index next next_row rows_there (rw (split, rows_add n k (suc (count - suc k))) at h) in
+      rw row_is at (in_range_both (row n) (rows_of n (count - suc k)) zs next (next + length (row n)) refl (omega (arith, length_row n, row_there)) last.1).0
 
-    pub row_fits : in_range (row n) (drop i zs) ≡ true
-    row_fits = rows_both.0
-
-    pub rows_more : StoringRows n zs index count room place (sets now at (bytes_of (row n) (drop i zs))) (i + (2 * n + 1)) (at + (4 * n + 4)) (left - 1)
-    unfolding rows_of
-    rows_more =
-        let long : length (row n) ≤ length (drop i zs) = rw length-drop (omega (arith, row_there)) in
-        let more = bytes_of_split (row n) (rows_of n (left - 1)) (drop i zs) long in
-        record {
-          copy = copy_more s.copy (bytes_of (row n) (drop i zs)) some (rw (length_row n) at more) (length_bytes (row n) (drop i zs) long ∙ widths_row n);
-          fit = rows_both.1;
-        }
-
-  pub rows_end : left ≡ 0 → now ≡ sets room place (bytes_of (rows_of n count) (drop index zs))
-  unfolding rows_of bytes_of
-  rows_end none = copy_end s.copy none refl
+  pub write_row : (place : ℕ) (room now : List ℕ) {last : List ℕ}
+      → now ≡ sets room place (bytes_of (rows_of n k) (drop index zs))
+      → last ≡ sets now (place + k * (4 * n + 4)) (bytes_of (linear (2 * n)) (drop (index + k * (2 * n + 1)) zs))
+      → last ≡ sets room place (bytes_of (rows_of n (k + 1)) (drop index zs))
+  write_row place room now so_far put =
+      rw (rows_more n k, row_is n)
+      (write_both (rows_of n k) (linear (2 * n)) zs index (index + k * (2 * n + 1)) next_row rows_there place (place + k * (4 * n + 4)) room now
+      (ap (λ w. place + w) (sym (widths_rows n k))) so_far put)

@@ -1,9 +1,13 @@
-// Runs of equal fields: definitions and laws that the checks, the readers and the writer share, and how long a record and its list are.
+// What the checks, the readers and the writer share: the forms of numbers; runs of equal fields; and how long a record and its list are.
 #![tactic(auto)]
 
 ghost use Rattle.std.specs.Prelude.{◌≤◌, ◌≡◌};
 ghost use Rattle.record.specs.Layouts.{kind_of, length_of};
 ghost use Rattle.record_fields.specs.Runs.{value_count};
+
+mod number;
+
+pub use number::Number;
 
 // How many values the list of a record has.
 pub fn value_count(kind: usize, n: usize, m: usize, ms: usize) -> usize

@@ -1,104 +1,79 @@
 // Filling a body: runs of values of one form, the parts of a body, and the body of each kind. Whoever calls has tested the values, and has room for them.
-#![tactic(auto)]
+#![tactic(auto, unfolding(record::specs::Fields::width))]
 
 ghost use Rattle.std.specs.Prelude.{◌+◌, ◌*◌, ◌≤◌, ◌≡◌, true, [], ◌∷◌, ◌++◌, length, drop, replicate};
 ghost use Rattle.std.proofs.lemmas.List.Edits.{sets};
 ghost use Rattle.endian.specs.Numbers.{digits};
-ghost use Rattle.record.specs.Fields.{u16, i16, i32, bytes_of, in_range};
+ghost use Rattle.record.specs.Fields.{bytes_of, in_range};
 ghost use Rattle.record.specs.Layouts.{kind_of, row_count, scale, direction, rows_of, length_of};
 ghost use Rattle.record_fields.specs.Runs.{linear, weights, stores, all_held};
 ghost use Rattle.record_fill.specs.Bodies.{body_bytes, Fitting};
 
-// ---- runs of values of one form, from an index of the list on, into the body from a place on
+use record_fields::Number;
 
-fn write_u16s(body: &mut [u8], place: usize, count: usize, values: &[i64], index: usize)
-    requires { (index + count ≤ length values.now) × (place + count * 2 ≤ length body.old) × (all_held u16 count (drop index values.now) ≡ true) }
-    ensures { body.new ≡ sets body.old place (stores u16 count (drop index values.now)) }
+// The values of a run of one form, from an index of the list on, into the body from a place on.
+fn write_run<N: Number>(body: &mut [u8], place: usize, count: usize, values: &[i64], index: usize)
+    requires there { index + count ≤ length values.now }
+    requires room { place + count * N.WIDTH ≤ length body.old }
+    requires held { all_held N.form count (drop index values.now) ≡ true }
+    ensures { body.new ≡ sets body.old place (stores N.form count (drop index values.now)) }
 {
-    let mut i = index;
-    let mut at = place;
-    let mut left = count;
-    while 0 < left {
-        endian::put_u16(body, at, values[i] as usize);
-        i += 1;
-        at += 2;
-        left -= 1;
-    }
-}
-
-fn write_i16s(body: &mut [u8], place: usize, count: usize, values: &[i64], index: usize)
-    requires { (index + count ≤ length values.now) × (place + count * 2 ≤ length body.old) × (all_held i16 count (drop index values.now) ≡ true) }
-    ensures { body.new ≡ sets body.old place (stores i16 count (drop index values.now)) }
-{
-    let mut i = index;
-    let mut at = place;
-    let mut left = count;
-    while 0 < left {
-        endian::put_i16(body, at, values[i]);
-        i += 1;
-        at += 2;
-        left -= 1;
-    }
-}
-
-fn write_i32s(body: &mut [u8], place: usize, count: usize, values: &[i64], index: usize)
-    requires { (index + count ≤ length values.now) × (place + count * 4 ≤ length body.old) × (all_held i32 count (drop index values.now) ≡ true) }
-    ensures { body.new ≡ sets body.old place (stores i32 count (drop index values.now)) }
-{
-    let mut i = index;
-    let mut at = place;
-    let mut left = count;
-    while 0 < left {
-        endian::put_i32(body, at, values[i]);
-        i += 1;
-        at += 4;
-        left -= 1;
+    for i in 0..count {
+        N::put(body, place + i * N::WIDTH, values[index + i]);
     }
 }
 
 // ---- parts of a body
 
 fn write_linear(body: &mut [u8], place: usize, count: usize, values: &[i64], index: usize)
-    requires { (index + (count + 1) ≤ length values.now) × (place + (2 * count + 4) ≤ length body.old) × (in_range (linear count) (drop index values.now) ≡ true) }
+    requires there { index + (count + 1) ≤ length values.now }
+    requires room { place + (2 * count + 4) ≤ length body.old }
+    requires fit { in_range (linear count) (drop index values.now) ≡ true }
     ensures { body.new ≡ sets body.old place (bytes_of (linear count) (drop index values.now)) }
 {
-    write_i16s(body, place, count, values, index);
-    write_i32s(body, place + 2 * count, 1, values, index + count);
+    write_run::<i16>(body, place, count, values, index);
+    write_run::<i32>(body, place + 2 * count, 1, values, index + count);
 }
 
 fn write_rows(body: &mut [u8], place: usize, n: usize, count: usize, values: &[i64], index: usize)
-    requires { (index + count * (2 * n + 1) ≤ length values.now) × (place + count * (4 * n + 4) ≤ length body.old) × (in_range (rows_of n count) (drop index values.now) ≡ true) }
+    requires there { index + count * (2 * n + 1) ≤ length values.now }
+    requires room { place + count * (4 * n + 4) ≤ length body.old }
+    requires fit { in_range (rows_of n count) (drop index values.now) ≡ true }
     ensures { body.new ≡ sets body.old place (bytes_of (rows_of n count) (drop index values.now)) }
 {
-    let mut i = index;
-    let mut at = place;
-    let mut left = count;
-    while 0 < left {
-        write_linear(body, at, 2 * n, values, i);
-        i += 2 * n + 1;
-        at += 4 * n + 4;
-        left -= 1;
+    for row in 0..count {
+        write_linear(
+            body,
+            place + row * (4 * n + 4),
+            2 * n,
+            values,
+            index + row * (2 * n + 1),
+        );
     }
 }
 
 fn write_exclusion(body: &mut [u8], n: usize, values: &[i64])
-    requires { (1 + 3 * n ≤ length values.now) × (2 + 12 * n ≤ length body.old) × (in_range ((scale ∷ []) ++ replicate (3 * n) direction) values.now ≡ true) }
+    requires there { 1 + 3 * n ≤ length values.now }
+    requires room { 2 + 12 * n ≤ length body.old }
+    requires fit { in_range ((scale ∷ []) ++ replicate (3 * n) direction) values.now ≡ true }
     ensures { body.new ≡ sets body.old 0 (bytes_of ((scale ∷ []) ++ replicate (3 * n) direction) values.now) }
 {
-    write_u16s(body, 0, 1, values, 0);
-    write_i32s(body, 2, 3 * n, values, 1);
+    write_run::<u16>(body, 0, 1, values, 0);
+    write_run::<i32>(body, 2, 3 * n, values, 1);
 }
 
 fn write_lasso(body: &mut [u8], n: usize, m: usize, ms: usize, values: &[i64])
-    requires { (1 + (ms * (2 * n + 1) + (n + 1 + (ms + 3 * m + 5))) ≤ length values.now) × (2 + (ms * (4 * n + 4) + (2 * n + 4 + (2 * ms + 6 * m + 10))) ≤ length body.old) × (in_range ((row_count ∷ []) ++ (rows_of n ms ++ (linear n ++ (weights ms ++ weights (3 * m + 3))))) values.now ≡ true) }
+    requires there { 1 + (ms * (2 * n + 1) + (n + 1 + (ms + 3 * m + 5))) ≤ length values.now }
+    requires room { 2 + (ms * (4 * n + 4) + (2 * n + 4 + (2 * ms + 6 * m + 10))) ≤ length body.old }
+    requires fit { in_range ((row_count ∷ []) ++ (rows_of n ms ++ (linear n ++ (weights ms ++ weights (3 * m + 3))))) values.now ≡ true }
     ensures { body.new ≡ sets body.old 0 (bytes_of ((row_count ∷ []) ++ (rows_of n ms ++ (linear n ++ (weights ms ++ weights (3 * m + 3))))) values.now) }
 {
     let place = 2 + ms * (4 * n + 4);
     let index = 1 + ms * (2 * n + 1);
-    write_u16s(body, 0, 1, values, 0);
+    write_run::<u16>(body, 0, 1, values, 0);
     write_rows(body, 2, n, ms, values, 1);
     write_linear(body, place, n, values, index);
-    write_u16s(
+    write_run::<u16>(
         body,
         place + (2 * n + 4),
         ms + 3 * m + 5,
@@ -109,7 +84,10 @@ fn write_lasso(body: &mut [u8], n: usize, m: usize, ms: usize, values: &[i64])
 
 // A loop's n and m, then its rows.
 fn write_loop(body: &mut [u8], n: usize, m: usize, values: &[i64])
-    requires { (n ≤ 16) × (m ≤ 64) × (m * (2 * n + 1) ≤ length values.now) × (4 + m * (4 * n + 4) ≤ length body.old) × (in_range (rows_of n m) values.now ≡ true) }
+    requires counts { (n ≤ 16) × (m ≤ 64) }
+    requires there { m * (2 * n + 1) ≤ length values.now }
+    requires room { 4 + m * (4 * n + 4) ≤ length body.old }
+    requires fit { in_range (rows_of n m) values.now ≡ true }
     ensures { body.new ≡ sets body.old 0 (digits 2 n ++ (digits 2 m ++ bytes_of (rows_of n m) values.now)) }
 {
     endian::put_u16(body, 0, n);
@@ -127,7 +105,7 @@ pub fn write_body(body: &mut [u8], kind: usize, n: usize, m: usize, ms: usize, v
 {
     match kind {
         1 => write_loop(body, n, m, values),
-        2 => write_u16s(body, 0, 2 * m, values, 0),
+        2 => write_run::<u16>(body, 0, 2 * m, values, 0),
         3 => write_exclusion(body, n, values),
         4 => write_lasso(body, n, m, ms, values),
         _ => (),

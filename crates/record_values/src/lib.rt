@@ -1,58 +1,23 @@
 // The list of values of a record, read from its bytes into a list that is long enough: runs of numbers of one form, parts of a body, a
 // whole list.
-#![tactic(auto)]
+#![tactic(auto, unfolding(record::specs::Fields::width))]
 
 ghost use Rattle.std.specs.Prelude.{◌+◌, ◌*◌, ◌≤◌, ◌≡◌, [], ◌∷◌, ◌++◌, length, drop, replicate};
 ghost use Rattle.std.proofs.lemmas.List.Edits.{sets};
-ghost use Rattle.record.specs.Fields.{u16, i16, i32, values as held};
+ghost use Rattle.record.specs.Fields.{values as held};
 ghost use Rattle.record.specs.Layouts.{kind_of, row_count, scale, direction, rows_of, length_of};
 ghost use Rattle.record_fields.specs.Runs.{numbers, linear, weights, value_count};
 ghost use Rattle.record_values.specs.ListsHeld.{list_of};
 
-// ---- runs of numbers of one form, from a place of the bytes on, into the list from an index on
+use record_fields::Number;
 
-fn read_u16s(bytes: &[u8], place: usize, count: usize, values: &mut [i64], index: usize)
-    requires { (place + count * 2 ≤ length bytes.now) × (index + count ≤ length values.old) }
-    ensures { values.new ≡ sets values.old index (numbers u16 count (drop place bytes.now)) }
+// The numbers of one form from a place of the bytes on, into the list from an index on.
+fn read_run<N: Number>(bytes: &[u8], place: usize, count: usize, values: &mut [i64], index: usize)
+    requires { (place + count * N.WIDTH ≤ length bytes.now) × (index + count ≤ length values.old) }
+    ensures { values.new ≡ sets values.old index (numbers N.form count (drop place bytes.now)) }
 {
-    let mut at = place;
-    let mut i = index;
-    let mut left = count;
-    while 0 < left {
-        values[i] = endian::u16_at(bytes, at) as i64;
-        at += 2;
-        i += 1;
-        left -= 1;
-    }
-}
-
-fn read_i16s(bytes: &[u8], place: usize, count: usize, values: &mut [i64], index: usize)
-    requires { (place + count * 2 ≤ length bytes.now) × (index + count ≤ length values.old) }
-    ensures { values.new ≡ sets values.old index (numbers i16 count (drop place bytes.now)) }
-{
-    let mut at = place;
-    let mut i = index;
-    let mut left = count;
-    while 0 < left {
-        values[i] = endian::i16_at(bytes, at);
-        at += 2;
-        i += 1;
-        left -= 1;
-    }
-}
-
-fn read_i32s(bytes: &[u8], place: usize, count: usize, values: &mut [i64], index: usize)
-    requires { (place + count * 4 ≤ length bytes.now) × (index + count ≤ length values.old) }
-    ensures { values.new ≡ sets values.old index (numbers i32 count (drop place bytes.now)) }
-{
-    let mut at = place;
-    let mut i = index;
-    let mut left = count;
-    while 0 < left {
-        values[i] = endian::i32_at(bytes, at);
-        at += 4;
-        i += 1;
-        left -= 1;
+    for i in 0..count {
+        values[index + i] = N::number_at(bytes, place + i * N::WIDTH);
     }
 }
 
@@ -62,22 +27,22 @@ fn read_linear(bytes: &[u8], place: usize, count: usize, values: &mut [i64], ind
     requires { (place + (2 * count + 4) ≤ length bytes.now) × (index + (count + 1) ≤ length values.old) }
     ensures { values.new ≡ sets values.old index (held (linear count) (drop place bytes.now)) }
 {
-    read_i16s(bytes, place, count, values, index);
-    read_i32s(bytes, place + 2 * count, 1, values, index + count);
+    read_run::<i16>(bytes, place, count, values, index);
+    read_run::<i32>(bytes, place + 2 * count, 1, values, index + count);
 }
 
 fn read_rows(bytes: &[u8], place: usize, n: usize, count: usize, values: &mut [i64], index: usize)
     requires { (place + count * (4 * n + 4) ≤ length bytes.now) × (index + count * (2 * n + 1) ≤ length values.old) }
     ensures { values.new ≡ sets values.old index (held (rows_of n count) (drop place bytes.now)) }
 {
-    let mut at = place;
-    let mut i = index;
-    let mut left = count;
-    while 0 < left {
-        read_linear(bytes, at, 2 * n, values, i);
-        at += 4 * n + 4;
-        i += 2 * n + 1;
-        left -= 1;
+    for row in 0..count {
+        read_linear(
+            bytes,
+            place + row * (4 * n + 4),
+            2 * n,
+            values,
+            index + row * (2 * n + 1),
+        );
     }
 }
 
@@ -85,8 +50,8 @@ fn read_exclusion(bytes: &[u8], n: usize, values: &mut [i64])
     requires { (8 + 12 * n ≤ length bytes.now) × (1 + 3 * n ≤ length values.old) }
     ensures { values.new ≡ sets values.old 0 (held ((scale ∷ []) ++ replicate (3 * n) direction) (drop 6 bytes.now)) }
 {
-    read_u16s(bytes, 6, 1, values, 0);
-    read_i32s(bytes, 8, 3 * n, values, 1);
+    read_run::<u16>(bytes, 6, 1, values, 0);
+    read_run::<i32>(bytes, 8, 3 * n, values, 1);
 }
 
 fn read_lasso(bytes: &[u8], n: usize, m: usize, ms: usize, values: &mut [i64])
@@ -95,10 +60,10 @@ fn read_lasso(bytes: &[u8], n: usize, m: usize, ms: usize, values: &mut [i64])
 {
     let place = 8 + ms * (4 * n + 4);
     let index = 1 + ms * (2 * n + 1);
-    read_u16s(bytes, 6, 1, values, 0);
+    read_run::<u16>(bytes, 6, 1, values, 0);
     read_rows(bytes, 8, n, ms, values, 1);
     read_linear(bytes, place, n, values, index);
-    read_u16s(
+    read_run::<u16>(
         bytes,
         place + (2 * n + 4),
         ms + 3 * m + 5,
@@ -117,7 +82,7 @@ pub fn read_list(bytes: &[u8], kind: usize, n: usize, m: usize, ms: usize, value
 {
     match kind {
         1 => read_rows(bytes, 10, n, m, values, 0),
-        2 => read_u16s(bytes, 6, 2 * m, values, 0),
+        2 => read_run::<u16>(bytes, 6, 2 * m, values, 0),
         3 => read_exclusion(bytes, n, values),
         4 => read_lasso(bytes, n, m, ms, values),
         _ => (),
