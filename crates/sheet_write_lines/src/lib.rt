@@ -15,14 +15,9 @@ pub fn put_bytes(text: &mut [u8], place: usize, word: &[u8]) -> usize
     requires { place + length word.now ≤ length text.old }
     ensures { Puts text.old place word.now result text.new }
 {
-    let mut at = place;
-    let mut i = 0;
-    while i < word.len() {
-        text[at] = word[i];
-        at += 1;
-        i += 1;
-    }
-    at
+    let end = place + word.len();
+    text[place..end].copy_from_slice(word);
+    end
 }
 
 // Writes a count, number or place, and what parts it from the next word or ends the line.
@@ -60,10 +55,8 @@ fn put_entries(text: &mut [u8], place: usize, rank: &[i64]) -> usize
     ensures { Puts text.old place (run (map signed_decimal rank.now)) result text.new }
 {
     let mut at = place;
-    let mut i = 0;
-    while i < rank.len() {
-        at = put_whole(text, at, rank[i], b' ');
-        i += 1;
+    for z in rank {
+        at = put_whole(text, at, *z, b' ');
     }
     at
 }
