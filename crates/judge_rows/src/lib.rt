@@ -4,21 +4,10 @@
 
 ghost use Rattle.std.specs.Prelude.{◌≡◌, length};
 ghost use Rattle.verdict_batch.specs.Batches.{batch_of, batch_answers, ranks_after};
-ghost use Rattle.judge_rows.specs.VerdictRows.{word, row_of, rows_after};
+ghost use Rattle.judge_rows.specs.VerdictRows.{row_of, rows_after};
 
 use verdict_batch::Batched;
 use verdict_flat::FlatVerdict;
-
-// A signed number as 64 bits.
-fn word(z: i64) -> usize
-    ensures { result ≡ word z }
-{
-    if z < 0 {
-        18446744073709551615 - (-1 - z) as usize
-    } else {
-        z as usize
-    }
-}
 
 // A verdict's fields in their order.
 fn row_of(v: FlatVerdict) -> [usize; 7]
@@ -29,8 +18,8 @@ fn row_of(v: FlatVerdict) -> [usize; 7]
         v.place,
         v.record,
         v.outcome,
-        word(v.start),
-        word(v.fall),
+        v.start.cast_unsigned() as usize,
+        v.fall.cast_unsigned() as usize,
         v.grade,
     ]
 }
@@ -47,13 +36,11 @@ pub fn judge_rows(
     ensures ranks_after { ranks.new ≡ ranks_after loopbytes.now bytes.now (length rows.old) ranks.old }
 {
     let said = judge_batch::enter(loopbytes, bytes, rows.len(), ranks.len());
-    let mut i = 0;
     let mut from = 0;
-    while i < said.count {
+    for i in 0..said.count {
         let end = record_parting::end_at(bytes, from);
         rows[i] = row_of(judge_batch::flat_part(loopbytes, bytes, from, end, i, ranks));
         from = end;
-        i += 1;
     }
     said
 }

@@ -7,35 +7,34 @@ use Rattle.judge_rows.proofs.judge_rows.Goals as goal
 
 pub loop-i-init : goal.loop-i-init
 unfolding ranks_in_turn
-loop-i-init c = (omega arith, refl, refl, record { from_is = refl; rows_are = refl; numbers_are = refl })
+loop-i-init c = (refl, refl, record { from_is = refl; rows_are = refl; numbers_are = refl })
 
 pub end_at-end-requires : goal.end_at-end-requires
-end_at-end-requires c = (asked verdict_row _ _ _ _ _ c.enter-said.ensures _ _ _ _ c.loop-i.invariant.3 c.loop-i-test.true).starts_within
+end_at-end-requires c = (asked verdict_row _ _ _ _ _ c.enter-said.ensures _ _ _ _ c.loop-i.invariant.2 c.loop-i-test.true).starts_within
 
 pub flat_part-requires-clause-loopbytes_value : goal.flat_part-requires-clause-loopbytes_value
-flat_part-requires-clause-loopbytes_value c = (asked verdict_row _ _ _ _ _ c.enter-said.ensures _ _ _ _ c.loop-i.invariant.3 c.loop-i-test.true).loop_sound
+flat_part-requires-clause-loopbytes_value c = (asked verdict_row _ _ _ _ _ c.enter-said.ensures _ _ _ _ c.loop-i.invariant.2 c.loop-i-test.true).loop_sound
 
 pub flat_part-requires-clause-from_le_end : goal.flat_part-requires-clause-from_le_end
 flat_part-requires-clause-from_le_end c =
-    ends_within verdict_row _ _ _ _ _ c.enter-said.ensures _ _ _ _ c.loop-i.invariant.3 c.loop-i-test.true _ c.end_at-end.ensures
+    ends_within verdict_row _ _ _ _ _ c.enter-said.ensures _ _ _ _ c.loop-i.invariant.2 c.loop-i-test.true _ c.end_at-end.ensures
 
 pub flat_part-requires-clause-loopbytes_in_bounds : goal.flat_part-requires-clause-loopbytes_in_bounds
-flat_part-requires-clause-loopbytes_in_bounds c = (asked verdict_row _ _ _ _ _ c.enter-said.ensures _ _ _ _ c.loop-i.invariant.3 c.loop-i-test.true).stretch_there
+flat_part-requires-clause-loopbytes_in_bounds c = (asked verdict_row _ _ _ _ _ c.enter-said.ensures _ _ _ _ c.loop-i.invariant.2 c.loop-i-test.true).stretch_there
 
 pub offset_bounds-rows-i : goal.offset_bounds-rows-i
 offset_bounds-rows-i c =
-    let few = (asked verdict_row _ _ _ _ _ c.enter-said.ensures _ _ _ _ c.loop-i.invariant.3 c.loop-i-test.true).few_before in
+    let few = (asked verdict_row _ _ _ _ _ c.enter-said.ensures _ _ _ _ c.loop-i.invariant.2 c.loop-i-test.true).few_before in
     record { fits = omega (arith, few) }
 
 pub bounds-rows-i : goal.bounds-rows-i
-bounds-rows-i c = (asked verdict_row _ _ _ _ _ c.enter-said.ensures _ _ _ _ c.loop-i.invariant.3 c.loop-i-test.true).row_there
+bounds-rows-i c = (asked verdict_row _ _ _ _ _ c.enter-said.ensures _ _ _ _ c.loop-i.invariant.2 c.loop-i-test.true).row_there
 
 pub loop-i-preserved : goal.loop-i-preserved
 loop-i-preserved c = (
-  omega arith,
-  simp length-set c.loop-i.invariant.1,
-  c.flat_part.auto.ranks ∙ c.loop-i.invariant.2,
-  next_state verdict_row _ _ _ _ _ c.enter-said.ensures _ _ _ _ c.loop-i.invariant.3 c.loop-i-test.true _ c.end_at-end.ensures
+  simp length-set c.loop-i.invariant.0,
+  c.flat_part.auto.ranks ∙ c.loop-i.invariant.1,
+  next_state verdict_row _ _ _ _ _ c.enter-said.ensures _ _ _ _ c.loop-i.invariant.2 c.loop-i-test.true _ c.end_at-end.ensures
       _ c.row_of.result c.flat_part.new.ranks (c.row_of.ensures ∙ ap row_of c.flat_part.ensures.0) refl c.flat_part.ensures.1,
 )
 
@@ -44,7 +43,7 @@ unfolding rows_after
 returns-clause-rows_after c =
     let a = c.args in
     let all : c.loop-i.i ≡ c.enter-said.result.count = omega arith in
-    c.loop-i.invariant.3.rows_are
+    c.loop-i.invariant.2.rows_are
     ∙ ap (row_at verdict_row a.loopbytes.now a.bytes.now a.rows.now a.ranks.now) all
     ∙ (all_filled verdict_row _ _ _ _ _ c.enter-said.ensures).0
 
@@ -53,6 +52,6 @@ unfolding ranks_after
 returns-clause-ranks_after c =
     let a = c.args in
     let all : c.loop-i.i ≡ c.enter-said.result.count = omega arith in
-    c.loop-i.invariant.3.numbers_are
+    c.loop-i.invariant.2.numbers_are
     ∙ ap (ranks_at verdict_row a.loopbytes.now a.bytes.now a.rows.now a.ranks.now) all
     ∙ (all_filled verdict_row _ _ _ _ _ c.enter-said.ensures).1
