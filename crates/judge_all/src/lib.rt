@@ -19,13 +19,11 @@ pub fn judge_all(
         × (ranks.new ≡ ranks_after loopbytes.now bytes.now (length verdicts.old) ranks.old) }
 {
     let said = judge_batch::enter(loopbytes, bytes, verdicts.len(), ranks.len());
-    let mut i = 0;
     let mut from = 0;
-    while i < said.count {
+    for i in 0..said.count {
         let end = record_parting::end_at(bytes, from);
         verdicts[i] = judge_batch::judge_part(loopbytes, bytes, from, end, i, ranks);
         from = end;
-        i += 1;
     }
     said
 }

@@ -7,35 +7,34 @@ use Rattle.judge_all.proofs.judge_all.Goals as goal
 
 pub loop-i-init : goal.loop-i-init
 unfolding ranks_in_turn
-loop-i-init c = (omega arith, refl, refl, record { from_is = refl; rows_are = refl; numbers_are = refl })
+loop-i-init c = (refl, refl, record { from_is = refl; rows_are = refl; numbers_are = refl })
 
 pub end_at-end-requires : goal.end_at-end-requires
-end_at-end-requires c = (asked as_it_is _ _ _ _ _ c.enter-said.ensures _ _ _ _ c.loop-i.invariant.3 c.loop-i-test.true).starts_within
+end_at-end-requires c = (asked as_it_is _ _ _ _ _ c.enter-said.ensures _ _ _ _ c.loop-i.invariant.2 c.loop-i-test.true).starts_within
 
 pub judge_part-requires-clause-loopbytes_value : goal.judge_part-requires-clause-loopbytes_value
-judge_part-requires-clause-loopbytes_value c = (asked as_it_is _ _ _ _ _ c.enter-said.ensures _ _ _ _ c.loop-i.invariant.3 c.loop-i-test.true).loop_sound
+judge_part-requires-clause-loopbytes_value c = (asked as_it_is _ _ _ _ _ c.enter-said.ensures _ _ _ _ c.loop-i.invariant.2 c.loop-i-test.true).loop_sound
 
 pub judge_part-requires-clause-from_le_end : goal.judge_part-requires-clause-from_le_end
 judge_part-requires-clause-from_le_end c =
-    ends_within as_it_is _ _ _ _ _ c.enter-said.ensures _ _ _ _ c.loop-i.invariant.3 c.loop-i-test.true _ c.end_at-end.ensures
+    ends_within as_it_is _ _ _ _ _ c.enter-said.ensures _ _ _ _ c.loop-i.invariant.2 c.loop-i-test.true _ c.end_at-end.ensures
 
 pub judge_part-requires-clause-loopbytes_in_bounds : goal.judge_part-requires-clause-loopbytes_in_bounds
-judge_part-requires-clause-loopbytes_in_bounds c = (asked as_it_is _ _ _ _ _ c.enter-said.ensures _ _ _ _ c.loop-i.invariant.3 c.loop-i-test.true).stretch_there
+judge_part-requires-clause-loopbytes_in_bounds c = (asked as_it_is _ _ _ _ _ c.enter-said.ensures _ _ _ _ c.loop-i.invariant.2 c.loop-i-test.true).stretch_there
 
 pub offset_bounds-verdicts-i : goal.offset_bounds-verdicts-i
 offset_bounds-verdicts-i c =
-    let few = (asked as_it_is _ _ _ _ _ c.enter-said.ensures _ _ _ _ c.loop-i.invariant.3 c.loop-i-test.true).few_before in
+    let few = (asked as_it_is _ _ _ _ _ c.enter-said.ensures _ _ _ _ c.loop-i.invariant.2 c.loop-i-test.true).few_before in
     record { fits = omega (arith, few) }
 
 pub bounds-verdicts-i : goal.bounds-verdicts-i
-bounds-verdicts-i c = (asked as_it_is _ _ _ _ _ c.enter-said.ensures _ _ _ _ c.loop-i.invariant.3 c.loop-i-test.true).row_there
+bounds-verdicts-i c = (asked as_it_is _ _ _ _ _ c.enter-said.ensures _ _ _ _ c.loop-i.invariant.2 c.loop-i-test.true).row_there
 
 pub loop-i-preserved : goal.loop-i-preserved
 loop-i-preserved c = (
-  omega arith,
-  simp length-set c.loop-i.invariant.1,
-  c.judge_part.auto.ranks ∙ c.loop-i.invariant.2,
-  next_state as_it_is _ _ _ _ _ c.enter-said.ensures _ _ _ _ c.loop-i.invariant.3 c.loop-i-test.true _ c.end_at-end.ensures
+  simp length-set c.loop-i.invariant.0,
+  c.judge_part.auto.ranks ∙ c.loop-i.invariant.1,
+  next_state as_it_is _ _ _ _ _ c.enter-said.ensures _ _ _ _ c.loop-i.invariant.2 c.loop-i-test.true _ c.end_at-end.ensures
       c.judge_part.result c.judge_part.result c.judge_part.new.ranks refl c.judge_part.ensures.0 c.judge_part.ensures.1,
 )
 
@@ -43,7 +42,7 @@ pub returns : goal.returns
 returns c =
     let a = c.args in
     let all : c.loop-i.i ≡ c.enter-said.result.count = omega arith in
-    let state = c.loop-i.invariant.3 in (
+    let state = c.loop-i.invariant.2 in (
       c.enter-said.ensures,
       state.rows_are ∙ ap (row_at as_it_is a.loopbytes.now a.bytes.now a.verdicts.now a.ranks.now) all ∙ row_last _ _ _ _ _ c.enter-said.ensures,
       state.numbers_are ∙ ap (ranks_at as_it_is a.loopbytes.now a.bytes.now a.verdicts.now a.ranks.now) all ∙ ranks_last _ _ _ _ _ c.enter-said.ensures,
