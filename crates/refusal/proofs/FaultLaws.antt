@@ -1,10 +1,34 @@
--- What a result that was handed on says of what is told, and what it is for what is told.
+-- What a result that was handed on says of what is told, and what it is for what is told; and that 0 is told by no refusal.
 use Rattle.std.specs.Prelude.{Result, Ok, Err}
-use mathlib.Core.Path.{◌≡◌, refl, ap}
+use mathlib.Core.Path.{◌≡◌, refl, sym, ap, ◌∙◌}
+use mathlib.Core.Bool.{Bool, true, false}
 use Prim.Native.Nat.{ℕ}
-use Rattle.refusal.specs.Tests.{Told, done, refused}
+use Rattle.refusal.specs.Tests.{Told, done, refused, ◌then◌, number}
+use Rattle.refusal.specs.Places.{told_each, told_once}
 use Rattle.refusal.specs.Faults.{result_of}
 use Rattle.refusal.specs.declared.Fault.{Fault}
+use Rattle.refusal.proofs.PlaceLaws.{all-or-first, told_none, told_there}
+
+-- 0 is told only by what is done
+abbrev pub Named : Told → Type 0
+Named t = number t ≡ 0 → t ≡ done
+
+pub named_then : (s t : Told) → Named s → Named t → Named (s then t)
+unfolding ◌then◌
+named_then done t f g = g
+named_then (refused k p) t f g = f
+
+pub named_each : (k n : ℕ) (holds : ℕ → Bool) → (k ≡ 0 → ⊥) → Named (told_each k n holds)
+unfolding number
+named_each k n holds some h =
+    all-or-first n holds (told_none k n holds) (λ below. absurd (some (sym (ap number (told_there k n holds below)) ∙ h)))
+
+pub named_once : (k : ℕ) (holds : Bool) → (k ≡ 0 → ⊥) → Named (told_once k holds)
+unfolding told_once number
+named_once k true some h = refl
+named_once k false some h = absurd (some h)
+
+-- ---- results
 
 module _ {A : Type 0} where
   -- what was given says that it is done

@@ -1,12 +1,14 @@
--- What the tests of each kind tell, condition after condition: the shape in which code asks them.
+-- What the tests of each kind tell, condition after condition: the shape in which code asks them. And none of them tells 0.
 use Prim.Native.Nat.{ℕ}
 use mathlib.Core.Path.{◌≡◌}
+use native.Mathlib.Omega.{arith}
 use lib.IntN.{pos, ◌+ℤ◌, ◌*ℤ◌}
 use lib.ListN.{length}
 use lib.Signed.{le_z, lt_z}
 use Rattle.refusal.specs.Tests.{◌then◌}
 use Rattle.refusal.specs.Places.{told_each, told_once}
 use Rattle.refusal.proofs.PlaceLaws.{first_append, first_once}
+use Rattle.refusal.proofs.FaultLaws.{Named, named_then, named_each, named_once}
 use Rattle.whole.specs.Same.{same_z}
 use Rattle.whole.specs.Sums.{dot, sum, less}
 use Rattle.theory.specs.Loops.{A, A', b, Loop}
@@ -26,6 +28,13 @@ pub ranking_in_order : (loop : Loop) (c : Ranking)
 unfolding ranking_told ranking_tests
 ranking_in_order loop c = simp (first_append, first_each, first_once)
 
+pub ranking_named : (loop : Loop) (c : Ranking) → Named (ranking_told loop c)
+ranking_named loop c =
+    rw (ranking_in_order loop c)
+    (named_then _ _ (named_each 21 _ _ (λ e. omega arith))
+    (named_then _ _ (named_each 22 _ _ (λ e. omega arith))
+    (named_then _ _ (named_each 23 _ _ (λ e. omega arith)) (named_once 24 _ (λ e. omega arith)))))
+
 pub exclusion_in_order : (loop : Loop) (c : Exclusion)
     → let p : Proposal Exclusion = record { loop = loop; values = c } in
     exclusion_told loop c
@@ -42,6 +51,11 @@ pub weighed_in_order : (over_A over_A' over_b n : ℕ) (w : Weighted)
     then told_once over_b (le_z (sum_of w b) w.limit))
 unfolding weighed_told weighed_tests
 weighed_in_order over_A over_A' over_b n w = simp (first_append, first_each, first_once)
+
+pub weighed_named : (over_A over_A' over_b n : ℕ) (w : Weighted) → (over_A ≡ 0 → ⊥) → (over_A' ≡ 0 → ⊥) → (over_b ≡ 0 → ⊥) → Named (weighed_told over_A over_A' over_b n w)
+weighed_named over_A over_A' over_b n w now-some next-some right-some =
+    rw (weighed_in_order over_A over_A' over_b n w)
+    (named_then _ _ (named_each over_A n _ now-some) (named_then _ _ (named_each over_A' n _ next-some) (named_once over_b _ right-some)))
 
 pub lasso_in_order : (loop : Loop) (c : Lasso)
     → lasso_told loop c
