@@ -1,34 +1,43 @@
--- Where the first entry of a state that is out of range stands, and what the tests tell.
-use Rattle.std.proofs.Common.{◌≡◌, ◌<◌, ◌∙◌, refl, ap, ℕ, Bool, true, false, not, cond, List, [], ◌∷◌, ℤ, length, Option, Some, None, arith}
-use Rattle.std.specs.List.{position, position_or_len}
-use Rattle.std.proofs.lemmas.Grind.{common_steps}
-use Rattle.std.proofs.lemmas.List.Recursion.{is_position_or_len}
-use borrow.Author.Tests.{eq-eqb, ne_eqb, ltb-true}
+-- The entries of a state against their range, one after another; and what the tests tell.
+use mathlib.Core.Path.{◌≡◌, refl, ◌∙◌}
+use Prim.Native.Nat.{ℕ, suc, ◌+◌, ◌<◌, ◌≤◌}
+use mathlib.Core.Bool.{true, false}
+use mathlib.Core.List.{List}
+use native.Mathlib.Numerals.{add-one}
+use native.Mathlib.Omega.{arith}
+use lib.IntN.{ℤ, pos}
+use lib.ListN.{length, drop, get_or}
+use lib.Seq.{drop-cons, drop-length}
+use borrow.Author.Tests.{eq-eqb, ne_eqb}
 use Rattle.record.specs.Ranges.{state_entries, within}
 use Rattle.refusal.specs.Tests.{done, refused, first}
 use Rattle.refusal.proofs.TestLaws.{passed, failed, passes_done}
 use Rattle.verdict.specs.StateTests.{GivenState, before_outside, state_tests}
+use Rattle.verdict.proofs.StatesInRange.{before_inside, before_stops}
 
--- ---- the first entry that is out of range
+-- ---- the entries of a state, one after another
 
-abbrev pub outside : ℤ → Bool
-outside z = not (within state_entries z)
+-- so far all are in range
+abbrev pub SoFar : List ℤ → ℕ → Type 0
+SoFar state i = (i ≤ length state) × (before_outside state ≡ i + before_outside (drop i state))
 
-before_is : (state : List ℤ) → before_outside state ≡ position_or_len outside state
-unfolding before_outside
-before_is state = is_position_or_len before_outside outside refl step state
-  where
-    by_test : (b : Bool) (n : ℕ) → ◌≡◌ {A = ℕ} (elim b [ true ↦ n + 1 | false ↦ 0 ]) (cond (not b) 0 (1 + n))
-    by_test true n = omega arith
-    by_test false n = refl
-    step : (x : ℤ) (xs : List ℤ) → before_outside (x ∷ xs) ≡ cond (outside x) 0 (1 + before_outside xs)
-    step x xs = by_test (within state_entries x) (before_outside xs)
+module _ (state : List ℤ) (i : ℕ) (so_far : SoFar state i) where
+  pub stops : i < length state → within state_entries (get_or state i (pos 0)) ≡ false → i ≡ before_outside state
+  stops here h =
+      let none : before_outside (drop i state) ≡ 0 = rw (drop-cons state i (pos 0) here) (before_stops _ _ h) in
+      omega (arith, so_far.1, none)
 
-pub first_is : (state : List ℤ) (i : ℕ) → position outside state ≡ Some i → (before_outside state ≡ i) × (i < length state)
-first_is state i h = ?
+  pub goes_on : i < length state → within state_entries (get_or state i (pos 0)) ≡ true → SoFar state (i + 1)
+  goes_on here h =
+      let more : before_outside (drop i state) ≡ suc (before_outside (drop (suc i) state)) = rw (drop-cons state i (pos 0) here) (before_inside _ _ h) in
+      (omega arith, rw (add-one i) (omega (arith, so_far.1, more)))
 
-pub none_is : (state : List ℤ) → position outside state ≡ None → before_outside state ≡ length state
-none_is state h = ?
+  pub ends : (i < length state → ⊥) → i ≡ before_outside state
+  unfolding before_outside
+  ends past =
+      let all : i ≡ length state = omega (arith, so_far.0, past) in
+      let none : before_outside (drop i state) ≡ 0 = rw (all, drop-length state) in
+      omega (arith, so_far.1, none)
 
 -- ---- the two tests
 
