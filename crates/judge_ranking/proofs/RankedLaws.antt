@@ -1,19 +1,20 @@
 -- What is told of a ranking's totals is told of the loop and the ranking that they are of; and how the rank is put. The laws speak of any loop
 -- and ranking, so they serve a ranking of kind 2 and one over a longer loop.
+use Rattle.std.specs.Prelude.{Option, Some, None, Result, Ok, Err}
 use mathlib.Core.Path.{◌≡◌, sym, ap, ap₂, ◌∙◌}
-use Prim.Native.Nat.{ℕ, suc, ◌+◌, ◌≤◌, ◌<◌}
+use Prim.Native.Nat.{ℕ, suc, ◌+◌, ◌<◌}
 use mathlib.Core.Bool.{true, false}
 use mathlib.Core.List.{List, ◌++◌}
-use native.Mathlib.Omega.{arith}
 use native.Mathlib.Numerals.{add-one}
 use lib.IntN.{ℤ, pos, neg_ℤ, ◌+ℤ◌}
 use lib.ListN.{length, get_or, set, drop}
 use lib.Seq.{drop-cons, append_snoc, set_at}
 use lib.Signed.{lt_z}
 use Rattle.refusal.specs.Tests.{Told, done, refused, ◌then◌}
-use Rattle.refusal.specs.Places.{Throughout, before_failing, told_once}
-use Rattle.refusal.proofs.PlaceLaws.{before_all, before_first, told_at, told_past, told_same, then_assoc}
-use Rattle.refusal.proofs.FaultLaws.{Named, named_then, named_each}
+use Rattle.refusal.specs.Places.{Throughout, told_once}
+use Rattle.refusal.specs.Faults.{result_of}
+use Rattle.refusal.specs.declared.Fault.{Fault}
+use Rattle.refusal.proofs.PlaceLaws.{before_all, before_first, told_none, told_at, told_same, then_assoc}
 use Rattle.whole.specs.Same.{same_z}
 use Rattle.whole.specs.Sums.{sum, tabulate}
 use Rattle.whole.proofs.Tables.{length_tabulate, tabulate_more, tabulate_same}
@@ -21,6 +22,8 @@ use Rattle.theory.specs.Conditions.{ranking_told}
 use Rattle.theory.specs.Loops.{b, Loop}
 use Rattle.theory.specs.Rankings.{Ranking, rank, start, fall}
 use Rattle.theory.proofs.InOrder.{ranking_in_order}
+use Rattle.judge_conditions.specs.Remembered.{first_failing}
+use Rattle.judge_conditions.proofs.RememberedLaws.{told_nothing, told_remembered}
 use Rattle.judge_ranking.specs.RankedBy.{next_in_sums, holds_at, column_told, columns_told, totals_told, Totalled, ranked_of, rank_put, RankedBy}
 use Rattle.judge_ranking.specs.declared.Ranked.{Ranked}
 
@@ -35,51 +38,33 @@ put_more entry lent j there =
 -- ---- condition after condition
 
 module _ (ys : List ℤ) (ylift : ℤ) (zs : List ℤ) (zlift : ℤ) (n : ℕ) where
-  abbrev told : ℕ → Told
-  told number = column_told number ys ylift zs zlift n
-
-  walk_ended : (number r : ℕ) → r ≡ before_failing n (holds_at number ys ylift zs zlift n) → r < n → told number ≡ refused number r
-  unfolding column_told
-  walk_ended number r is below = told_at number n _ r is below
-
-  walk_passed : (number r : ℕ) → r ≡ before_failing n (holds_at number ys ylift zs zlift n) → n ≤ r → told number ≡ done
-  unfolding column_told
-  walk_passed number r is past = told_past number n _ r is past
-
-  first_fails : (r : ℕ) → told 21 ≡ refused 21 r → columns_told ys ylift zs zlift n ≡ refused 21 r
-  unfolding columns_told ◌then◌
-  first_fails r h = rw h
-
-  second_fails : (r : ℕ) → told 21 ≡ done → told 22 ≡ refused 22 r → columns_told ys ylift zs zlift n ≡ refused 22 r
-  unfolding columns_told ◌then◌
-  second_fails r g h = rw (g, h)
-
-  third_asked : told 21 ≡ done → told 22 ≡ done → columns_told ys ylift zs zlift n ≡ told 23
-  unfolding columns_told ◌then◌
-  third_asked g h = rw (g, h)
-
   -- by one walk that ends at a column that fails the first, or has gone along all of them and remembered the others
   pub first_told : (j : ℕ) → j < n → holds_at 21 ys ylift zs zlift n j ≡ false → Throughout j (λ k. holds_at 21 ys ylift zs zlift n k ≡ true)
       → columns_told ys ylift zs zlift n ≡ refused 21 j
-  first_told j below fails before = first_fails j (walk_ended 21 j (sym (before_first n _ j below fails before)) below)
+  unfolding columns_told column_told ◌then◌
+  first_told j below fails before = rw (told_at 21 n (holds_at 21 ys ylift zs zlift n) j (sym (before_first n _ j below fails before)) below)
 
-  module _ (all : Throughout n (λ k. holds_at 21 ys ylift zs zlift n k ≡ true)) (second : ℕ) (second_is : second ≡ before_failing n (holds_at 22 ys ylift zs zlift n)) where
-    first_done : told 21 ≡ done
-    first_done = walk_passed 21 n (sym (before_all n _ all)) (omega arith)
+  module _ (all : Throughout n (λ k. holds_at 21 ys ylift zs zlift n k ≡ true)) (second third : Option ℕ)
+      (second_is : second ≡ first_failing n (holds_at 22 ys ylift zs zlift n)) (third_is : third ≡ first_failing n (holds_at 23 ys ylift zs zlift n)) where
+    past_first : columns_told ys ylift zs zlift n ≡ (column_told 22 ys ylift zs zlift n then column_told 23 ys ylift zs zlift n)
+    unfolding columns_told column_told ◌then◌
+    past_first = rw (told_none 21 n (holds_at 21 ys ylift zs zlift n) (before_all n _ all))
 
-    pub second_told : second < n → columns_told ys ylift zs zlift n ≡ refused 22 second
-    second_told below = second_fails second first_done (walk_ended 22 second second_is below)
+    pub second_told : (place : ℕ) → second ≡ Some place → columns_told ys ylift zs zlift n ≡ refused 22 place
+    unfolding column_told ◌then◌
+    second_told place found = past_first ∙ rw (told_remembered n (holds_at 22 ys ylift zs zlift n) 22 place (sym found ∙ second_is))
 
-    pub third_told : (third : ℕ) → third ≡ before_failing n (holds_at 23 ys ylift zs zlift n) → n ≤ second → third < n → columns_told ys ylift zs zlift n ≡ refused 23 third
-    third_told third third-is past below = third_asked first_done (walk_passed 22 second second_is past) ∙ walk_ended 23 third third-is below
+    past_second : second ≡ None → columns_told ys ylift zs zlift n ≡ column_told 23 ys ylift zs zlift n
+    unfolding column_told ◌then◌
+    past_second found = past_first ∙ rw (told_nothing n (holds_at 22 ys ylift zs zlift n) 22 (sym found ∙ second_is))
 
-    pub none_told : (third : ℕ) → third ≡ before_failing n (holds_at 23 ys ylift zs zlift n) → n ≤ second → n ≤ third → columns_told ys ylift zs zlift n ≡ done
-    none_told third third-is past beyond = third_asked first_done (walk_passed 22 second second_is past) ∙ walk_passed 23 third third-is beyond
+    pub third_told : (place : ℕ) → second ≡ None → third ≡ Some place → columns_told ys ylift zs zlift n ≡ refused 23 place
+    unfolding column_told
+    third_told place past found = past_second past ∙ told_remembered n _ 23 place (sym found ∙ third_is)
 
-  pub columns_named : Named (columns_told ys ylift zs zlift n)
-  unfolding columns_told column_told
-  columns_named =
-      named_then _ _ (named_each 21 n _ (λ e. omega arith)) (named_then _ _ (named_each 22 n _ (λ e. omega arith)) (named_each 23 n _ (λ e. omega arith)))
+    pub none_told : second ≡ None → third ≡ None → columns_told ys ylift zs zlift n ≡ done
+    unfolding column_told
+    none_told past found = past_second past ∙ told_nothing n _ 23 (sym found ∙ third_is)
 
   -- the first three, then the fourth
   pub three_fail : (zb : ℤ) (k p : ℕ) → columns_told ys ylift zs zlift n ≡ refused k p → totals_told ys ylift zs zlift n zb ≡ refused k p
@@ -96,14 +81,14 @@ module _ (ys : List ℤ) (ylift : ℤ) (zs : List ℤ) (zlift : ℤ) (n : ℕ) w
 
 -- ---- what is then shown
 
-pub shows_nothing : (told : Told) (k p : ℕ) (r : Ranked) (start fall : ℤ) (entries lent : List ℤ) → told ≡ refused k p
-    → r ≡ record { number = k; place = p; start = pos 0; fall = pos 0 } → (r ≡ ranked_of told start fall) × (lent ≡ rank_put told entries lent)
-unfolding ranked_of rank_put
+pub shows_nothing : (told : Told) (k p : ℕ) (r : Result Ranked Fault) (start fall : ℤ) (entries lent : List ℤ) → told ≡ refused k p
+    → r ≡ Err (record { number = k; place = p }) → (r ≡ ranked_of told start fall) × (lent ≡ rank_put told entries lent)
+unfolding result_of rank_put
 shows_nothing told k p r start fall entries lent h e = (e ∙ rw h, rw h)
 
 pub shows_rank : (told : Told) (start fall : ℤ) (n : ℕ) (entry : ℕ → ℤ) (lent after : List ℤ) → told ≡ done → after ≡ tabulate n entry ++ drop n lent
-    → (record { number = 0; place = 0; start = start; fall = fall } ≡ ranked_of told start fall) × (after ≡ rank_put told (tabulate n entry) lent)
-unfolding ranked_of rank_put
+    → (Ok (record { start = start; fall = fall }) ≡ ranked_of told start fall) × (after ≡ rank_put told (tabulate n entry) lent)
+unfolding result_of rank_put
 shows_rank told start fall n entry lent after h e = (rw h, e ∙ rw (h, length_tabulate n entry))
 
 -- ---- the totals are those of a loop and a ranking
@@ -124,7 +109,7 @@ module _ (loop : Loop) (c : Ranking) (ys : List ℤ) (ylift : ℤ) (zs : List �
   unfolding rank
   rank_of = tabulate_same loop.variables _ _ (λ j below. (same j below).3)
 
-  pub ranked_by : (yb zb : ℤ) (r : Ranked) (before after : List ℤ) → yb ≡ sum c.Y b loop.rows → zb ≡ sum c.Z b loop.rows
+  pub ranked_by : (yb zb : ℤ) (r : Result Ranked Fault) (before after : List ℤ) → yb ≡ sum c.Y b loop.rows → zb ≡ sum c.Z b loop.rows
       → r ≡ ranked_of (totals_told ys ylift zs zlift loop.variables zb) (neg_ℤ yb) (neg_ℤ zb)
       → after ≡ rank_put (totals_told ys ylift zs zlift loop.variables zb) (tabulate loop.variables (next_in_sums zs zlift loop.variables)) before
       → RankedBy r (ranking_told loop c) loop c before after

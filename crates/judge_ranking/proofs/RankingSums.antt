@@ -1,4 +1,5 @@
 -- The totals of a ranking's rows, in lists of any length: they are small enough to be asked, and what is told of them is told of the ranking.
+use Rattle.std.specs.Prelude.{Result}
 use Prim.Native.Nat.{ℕ, ◌+◌, ◌*◌, ◌≤◌}
 use mathlib.Core.Path.{◌≡◌}
 use mathlib.Core.List.{List}
@@ -9,7 +10,6 @@ use mir.Syntax.{w64}
 use mir.Val.{of_z, to_z}
 use mir.Facts.{to_z-of_z}
 use Rattle.refusal.specs.declared.Fault.{Fault}
-use Rattle.refusal.specs.Faults.{fault_of}
 use Rattle.whole.specs.Sums.{tabulate}
 use Rattle.judge_sums.specs.declared.Beside.{Beside}
 use Rattle.judge_sums.specs.declared.Besides.{Besides}
@@ -18,7 +18,7 @@ use Rattle.judge_sums.specs.Running.{Modest, CanGrow}
 use Rattle.judge_sums.proofs.LiftLaws.{sums_modest, passed_grows}
 use Rattle.judge_conditions.specs.LoopHeld.{loop_held}
 use Rattle.judge_conditions.proofs.Totals.{modest_fits, passed_modest, lift_modest, can_grow, grown_fits, right_is}
-use Rattle.judge_ranking.specs.RankedBy.{next_in_sums, columns_told, totals_told, ranked_of, rank_put, RankingBy}
+use Rattle.judge_ranking.specs.RankedBy.{next_in_sums, totals_told, ranked_of, rank_put, RankingBy}
 use Rattle.judge_ranking.specs.RankingHeld.{ranking_held}
 use Rattle.judge_ranking.specs.declared.Ranked.{Ranked}
 use Rattle.judge_ranking.proofs.RankedLaws.{ranked_by}
@@ -63,9 +63,11 @@ module _ {long : ℕ} {rows certificate : List ℕ} {start n m : ℕ} {ys zs : L
   stays_long : {sums : List ℤ} → RestStays (2 * n) (replicate long (pos 0)) sums → 2 * n ≤ length sums
   stays_long rest = omega (arith, h.wide, rw (length-replicate long (pos 0)) at rest.long)
 
-  -- the first three conditions can be asked, and the fourth
-  pub columns_ready : (2 * n ≤ length ys) × (2 * n ≤ length zs) × (n ≤ 16) × AllModest (2 * n) ys × AllModest (2 * n) zs × Modest (passed y.lift) × Modest (passed z.lift)
-  columns_ready = (
+  -- the conditions can be asked
+  pub totals_ready : {room : ℕ} → n ≤ room
+      → (2 * n ≤ length ys) × (2 * n ≤ length zs) × (n ≤ 16) × AllModest (2 * n) ys × AllModest (2 * n) zs × Modest (passed y.lift) × Modest (passed z.lift)
+      × CanGrow (passed y.right) × CanGrow (passed z.right) × (n ≤ room)
+  totals_ready fits = (
     stays_long h.added.2,
     stays_long h.added.3,
     h.narrow,
@@ -73,33 +75,28 @@ module _ {long : ℕ} {rows certificate : List ℕ} {start n m : ℕ} {ys zs : L
     columns_small h.few h.added.1,
     passed_modest y.lift (lift_small h.few h.added.4),
     passed_modest z.lift (lift_small h.few h.added.5),
+    passed_grows y.right (right_grows h.few h.added.4),
+    passed_grows z.right (right_grows h.few h.added.5),
+    fits,
   )
 
-  pub totals_ready : {room : ℕ} → n ≤ room
-      → (2 * n ≤ length zs) × (n ≤ 16) × AllModest (2 * n) zs × Modest (passed z.lift) × CanGrow (passed y.right) × CanGrow (passed z.right) × (n ≤ room)
-  totals_ready fits =
-      let ready = columns_ready in
-      (ready.1, ready.2, ready.4, ready.6, passed_grows y.right (right_grows h.few h.added.4), passed_grows z.right (right_grows h.few h.added.5), fits)
-
-  -- and what both tell is told of the ranking
-  pub ranks : (fault : Fault) (r : Ranked) (before after : List ℤ) → fault ≡ fault_of (columns_told ys (passed y.lift) zs (passed z.lift) n)
-      → ((sums : List ℤ) (lift : ℤ) → fault ≡ fault_of (columns_told sums lift zs (passed z.lift) n)
-      → (r ≡ ranked_of (totals_told sums lift zs (passed z.lift) n (passed z.right)) (neg_ℤ (passed y.right)) (neg_ℤ (passed z.right)))
-      × (after ≡ rank_put (totals_told sums lift zs (passed z.lift) n (passed z.right)) (tabulate n (next_in_sums zs (passed z.lift) n)) before))
+  -- and what they tell is told of the ranking
+  pub ranks : (r : Result Ranked Fault) (before after : List ℤ)
+      → (r ≡ ranked_of (totals_told ys (passed y.lift) zs (passed z.lift) n (passed z.right)) (neg_ℤ (passed y.right)) (neg_ℤ (passed z.right)))
+      × (after ≡ rank_put (totals_told ys (passed y.lift) zs (passed z.lift) n (passed z.right)) (tabulate n (next_in_sums zs (passed z.lift) n)) before)
       → RankingBy r (loop_held rows start n m) (ranking_held certificate 6 m) before after
   unfolding loop_held ranking_held
-  ranks fault r before after first fourth =
-      let lift_y = to_z-of_z {w = w64} {z = y.lift} (modest_fits (lift_small h.few h.added.4)) in
-      let lift_z = to_z-of_z {w = w64} {z = z.lift} (modest_fits (lift_small h.few h.added.5)) in
-      let told =
+  ranks r before after told =
+      let so =
       rw (
-        lift_z,
+        to_z-of_z {w = w64} {z = y.lift} (modest_fits (lift_small h.few h.added.4)),
+        to_z-of_z {w = w64} {z = z.lift} (modest_fits (lift_small h.few h.added.5)),
         to_z-of_z {w = w64} {z = y.right} (grown_fits (right_grows h.few h.added.4)),
         to_z-of_z {w = w64} {z = z.right} (grown_fits (right_grows h.few h.added.5)),
-      ) at fourth ys y.lift (rw (lift_y, lift_z) at first) in
+      ) at told in
       ranked_by (loop_held rows start n m) (ranking_held certificate 6 m) ys y.lift zs z.lift
       (totalled rows certificate start n m 6 ys y.lift zs z.lift (omega (arith, h.few)) h.added.0 h.added.4.lift_sum h.added.1 h.added.5.lift_sum)
       y.right z.right r before after
       (right_is certificate 6 rows start n m y.right h.added.4.right_sum)
       (right_is certificate (6 + 2 * m) rows start n m z.right h.added.5.right_sum)
-      told.0 told.1
+      so.0 so.1

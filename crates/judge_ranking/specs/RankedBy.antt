@@ -1,8 +1,10 @@
 -- What the tests of a ranking's conditions tell, and what is shown where all hold: start, fall, and the rank in the front of a list.
-use Rattle.std.specs.Prelude.{ℕ, ◌+◌, ◌<◌, ◌≡◌, Bool, true, cond, List, ◌++◌, eqb, ℤ, pos, ◌+ℤ◌, ◌-ℤ◌, length, get_or, drop}
+use Rattle.std.specs.Prelude.{Result, ℕ, ◌+◌, ◌<◌, ◌≡◌, Bool, true, cond, List, ◌++◌, eqb, ℤ, pos, ◌+ℤ◌, ◌-ℤ◌, length, get_or, drop}
 use Rattle.std.specs.Int.Signed.{lt_z}
 use Rattle.refusal.specs.Tests.{Told, done, refused, ◌then◌}
 use Rattle.refusal.specs.Places.{Throughout, told_each, told_once}
+use Rattle.refusal.specs.Faults.{result_of}
+use Rattle.refusal.specs.declared.Fault.{Fault}
 use Rattle.theory.specs.Conditions.{ranking_told}
 use Rattle.theory.specs.Loops.{A, A', Loop}
 use Rattle.theory.specs.Rankings.{Ranking, rank, start, fall}
@@ -58,9 +60,8 @@ Totalled ys ylift zs zlift loop c =
 -- ---- what is shown
 
 -- from what is told: start and fall where nothing is
-unfoldable pub ranked_of : Told → ℤ → ℤ → Ranked
-ranked_of done start fall = record { number = 0; place = 0; start = start; fall = fall }
-ranked_of (refused k p) start fall = record { number = k; place = p; start = pos 0; fall = pos 0 }
+abbrev pub ranked_of : Told → ℤ → ℤ → Result Ranked Fault
+ranked_of told start fall = result_of told (record { start = start; fall = fall })
 
 -- and the rank in the front of a list, which stays otherwise
 unfoldable pub rank_put : Told → List ℤ → List ℤ → List ℤ
@@ -68,10 +69,10 @@ rank_put done r lent = r ++ drop (length r) lent
 rank_put (refused k p) r lent = lent
 
 -- of a ranking of a loop, with what is told of it or of the certificate that holds it
-pub record RankedBy (r : Ranked) (told : Told) (loop : Loop) (c : Ranking) (before after : List ℤ) : Type 0 where
+pub record RankedBy (r : Result Ranked Fault) (told : Told) (loop : Loop) (c : Ranking) (before after : List ℤ) : Type 0 where
   pub shown : r ≡ ranked_of told (start loop c) (fall loop c)
   pub put : after ≡ rank_put told (rank loop c) before
 
 -- of the ranking's own conditions
-abbrev pub RankingBy : Ranked → Loop → Ranking → List ℤ → List ℤ → Type 0
+abbrev pub RankingBy : Result Ranked Fault → Loop → Ranking → List ℤ → List ℤ → Type 0
 RankingBy r loop c before after = RankedBy r (ranking_told loop c) loop c before after

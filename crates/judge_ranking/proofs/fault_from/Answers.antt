@@ -1,0 +1,55 @@
+-- `judge_ranking::fault_from` meets its contract: the walk ends at the first column that fails the first condition, or has remembered the first that fail the others.
+use Rattle.std.proofs.Common.{◌≡◌, sym, ◌∙◌, arith}
+use borrow.Author.Tests.{not-true}
+use mir.Facts.{to_z-of_z}
+use Rattle.refusal.proofs.FaultLaws.{gives, refuses}
+use Rattle.judge_conditions.proofs.RememberedLaws.{none_failing}
+use Rattle.judge_ranking.proofs.RankedLaws.{first_told, second_told, third_told, none_told}
+use Rattle.judge_ranking.proofs.fault_from.Goals as goal
+
+pub loop-j-init : goal.loop-j-init
+loop-j-init c =
+    let a = c.args in
+    rw (to_z-of_z c.ranges.ylift, to_z-of_z c.ranges.zlift)
+    (record {
+      first_held = λ k below. (c.requires.8 k below).0;
+      second_is = none_failing a.from _ (λ k below. (c.requires.8 k below).1);
+      third_is = none_failing a.from _ (λ k below. (c.requires.8 k below).2);
+    })
+
+pub returns-then-not-column : goal.returns-then-not-column
+returns-then-not-column c =
+    let a = c.args in
+    let l = c.loop-j in
+    let fails = rw (to_z-of_z c.ranges.ylift, to_z-of_z c.ranges.zlift) at (sym c.column_holds-column.ensures.0) in
+    let before = rw (to_z-of_z c.ranges.ylift, to_z-of_z c.ranges.zlift) at l.invariant.first_held in
+    c.refused.ensures
+    ∙ refuses tt (first_told a.ys.now a.ylift a.zs.now a.zlift a.n l.j c.loop-j-test.true (fails ∙ not-true _ c.if-not-column.true) before)
+
+pub returns-in-Some : goal.returns-in-Some
+returns-in-Some c =
+    let a = c.args in
+    let l = c.loop-j in
+    let end : l.j ≡ a.n = omega arith in
+    let i = rw (to_z-of_z c.ranges.ylift, to_z-of_z c.ranges.zlift, end) at l.invariant in
+    c.refused-in-Some.ensures
+    ∙ refuses tt (second_told a.ys.now a.ylift a.zs.now a.zlift a.n i.first_held l.second l.third i.second_is i.third_is c.in-Some.place c.in-Some.is)
+
+pub returns-in-Some-third : goal.returns-in-Some-third
+returns-in-Some-third c =
+    let a = c.args in
+    let l = c.loop-j in
+    let end : l.j ≡ a.n = omega arith in
+    let i = rw (to_z-of_z c.ranges.ylift, to_z-of_z c.ranges.zlift, end) at l.invariant in
+    c.refused-in-Some-third.ensures
+    ∙ refuses tt
+    (third_told a.ys.now a.ylift a.zs.now a.zlift a.n i.first_held l.second l.third i.second_is i.third_is
+    c.in-Some-third.place c.in_default.is c.in-Some-third.is)
+
+pub returns : goal.returns
+returns c =
+    let a = c.args in
+    let l = c.loop-j in
+    let end : l.j ≡ a.n = omega arith in
+    let i = rw (to_z-of_z c.ranges.ylift, to_z-of_z c.ranges.zlift, end) at l.invariant in
+    gives tt (none_told a.ys.now a.ylift a.zs.now a.zlift a.n i.first_held l.second l.third i.second_is i.third_is c.in_default.is c.in_default-third.is)
