@@ -10,6 +10,7 @@ ghost use Rattle.judge_ranking.specs.RankingHeld.{ranking_held};
 ghost use Rattle.judge_longer.specs.LongerHeld.{RowTaken, longer_held};
 
 use judge_ranking::Ranked;
+use refusal::Fault;
 use whole::Total;
 
 // A total less a multiplier times an entry: one row more, which is minus that entry.
@@ -55,7 +56,7 @@ pub fn longer_ranking(
     s: usize,
     right: i64,
     rank: &mut [i64],
-) -> Ranked
+) -> Result<Ranked, Fault>
     requires { RowsIn rows.now start n m × (m ≤ 64) × (n ≤ 16) × (place < 65536) × (s < 65536)
         × (place + 4 * (m + 1) ≤ length certificate.now) × (s + 2 * n ≤ length certificate.now) × (nat_abs right ≤ 2147483648)
         × (n ≤ length rank.old) }
@@ -75,6 +76,5 @@ pub fn longer_ranking(
     take_row(&mut zs, n, z_last, certificate, s);
     let yb = and_times(under_y.right, y_last, right);
     let zb = and_times(under_z.right, z_last, right);
-    let fault = judge_ranking::columns_fault(&ys, &zs, n, under_y.lift, under_z.lift);
-    judge_ranking::by_totals(fault, &zs, n, under_z.lift, yb, zb, rank)
+    judge_ranking::by_totals(&ys, &zs, n, under_y.lift, under_z.lift, yb, zb, rank)
 }
