@@ -1,9 +1,8 @@
 -- What the tests of L against the bytes tell of a judging's records: the refusal, or that the record is open for its kind.
-use mathlib.Core.Path.{◌≡◌, refl, sym, ap, ◌∙◌}
+use mathlib.Core.Path.{◌≡◌}
 use Prim.Native.Nat.{ℕ}
 use mathlib.Core.Bool.{Bool, true, false, ◌&&◌}
 use mathlib.Core.List.{List, []}
-use native.Mathlib.Omega.{arith}
 use lib.IntN.{pos}
 use lib.ListN.{drop}
 use Rattle.endian.specs.Numbers.{little_at}
@@ -14,13 +13,15 @@ use Rattle.record.specs.Readers.{framing, stated_length, kind_number, kind, soun
 use Rattle.record.specs.Wants.{wants_of}
 use Rattle.record.proofs.KindLaws.{no_loop}
 use Rattle.record.proofs.SoundRecords.{counts_in_range}
-use Rattle.refusal.specs.Tests.{Told, done, refused, first}
+use Rattle.refusal.specs.declared.Fault.{Fault}
+use Rattle.refusal.specs.Faults.{result_of}
+use Rattle.refusal.specs.Tests.{refused, first}
+use Rattle.refusal.proofs.FaultLaws.{told_refused}
 use Rattle.refusal.proofs.TestLaws.{first_told}
-use Rattle.record_check.specs.Checks.{refusal, certificate_check, framed, Framed, Opened}
-use Rattle.record_check.specs.declared.Checked.{Checked}
+use Rattle.record_check.specs.Checks.{certificate_check, Framed, Opened}
 use Rattle.record_check.proofs.BodyWays.{unwanted}
 use Rattle.record_check.proofs.CertificateWays.{certificate_unwanted}
-use Rattle.record_check.proofs.FrameWays.{frame_passes}
+use Rattle.record_check.proofs.FrameWays.{stopped, right, frame_passes}
 use Rattle.verdict.specs.Pairs.{loop_record, certificate_record}
 use Rattle.judge.specs.SoundPairs.{LoopSound}
 use Rattle.judge.proofs.Entered.{loop_refused, certificate_refused}
@@ -28,18 +29,13 @@ use Rattle.judge.proofs.SoundSizes.{loop_kind, loop_says}
 
 -- ---- the frame
 
-module _ (bytes : List ℕ) (v : Checked) (is : v ≡ framed (first framing (loop_reader bytes []))) where
-  pub frame_told : (v.number ≡ 0 → ⊥) → first framing (loop_reader bytes []) ≡ refused v.number v.place
-  unfolding framed
-  frame_told some = by_told (first framing (loop_reader bytes [])) refl
-    where
-      by_told : (t : Told) → first framing (loop_reader bytes []) ≡ t → first framing (loop_reader bytes []) ≡ refused v.number v.place
-      by_told done e = absurd (some (ap (λ x. x.number) (is ∙ ap framed e)))
-      by_told (refused k p) e = e ∙ ap (λ (x : Checked). refused x.number x.place) (sym (is ∙ ap framed e))
+module _ (bytes : List ℕ) where
+  pub frame_told : (f : Fault) → stopped f ≡ result_of (first framing (loop_reader bytes [])) tt → first framing (loop_reader bytes []) ≡ refused f.number f.place
+  frame_told f is = told_refused (first framing (loop_reader bytes [])) tt f is
 
-  pub well_framed : v.number ≡ 0 → Framed bytes
+  pub well_framed : right ≡ result_of (first framing (loop_reader bytes [])) tt → Framed bytes
   unfolding loop_reader
-  well_framed zero = frame_passes (loop_reader bytes []) v is zero
+  well_framed is = frame_passes (loop_reader bytes []) is
 
 -- a record whose frame is refused is refused so, whatever it is
 module _ (bytes : List ℕ) (k p : ℕ) (told : first framing (loop_reader bytes []) ≡ refused k p) where
@@ -55,7 +51,7 @@ module _ (bytes : List ℕ) (k p : ℕ) (told : first framing (loop_reader bytes
 pub unwanted_loop : (bytes : List ℕ) → Framed bytes → (little_at 2 bytes 4 ≡ 1 → ⊥) → first sound (loop_record bytes) ≡ refused 4 4
 unfolding loop_reader kind kind_number
 unwanted_loop bytes f other =
-    loop_refused bytes (refusal 4 4) (unwanted (loop_reader bytes []) f (no_loop (little_at 2 bytes 4) other)) (λ e. omega (arith, e))
+    loop_refused bytes (record { number = 4; place = 4 }) (unwanted (loop_reader bytes []) f (no_loop (little_at 2 bytes 4) other))
 
 -- ---- a certificate for a sound loop, past its frame
 
@@ -73,4 +69,4 @@ module _ (loopbytes : List ℕ) (n m : ℕ) (l : LoopSound loopbytes n m) (certi
       → first sound (certificate_record (wants_of wanted) (loop_record loopbytes) certificate) ≡ refused 4 4
   unfolding certificate_check
   unwanted_told wanted none =
-      certificate_refused (wants_of wanted) loopbytes n m l certificate (refusal 4 4) (certificate_unwanted wanted certificate n m f none) (λ e. omega (arith, e))
+      certificate_refused (wants_of wanted) loopbytes n m l certificate (record { number = 4; place = 4 }) (certificate_unwanted wanted certificate n m f none)

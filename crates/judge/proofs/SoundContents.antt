@@ -1,4 +1,5 @@
 -- Sound records hold, by places, the loop and the certificate of crate `verdict`; so what the conditions' code tells of the places it tells of the records.
+use Rattle.std.specs.Prelude.{Result}
 use mathlib.Core.Path.{◌≡◌, refl, ap, ◌∙◌}
 use Prim.Native.Nat.{ℕ, ◌<◌}
 use mathlib.Core.Bool.{Bool}
@@ -8,6 +9,7 @@ use Rattle.endian.specs.Numbers.{little_at}
 use Rattle.record.proofs.SoundRecords.{sound_says}
 use Rattle.record.specs.Layouts.{Kind, ranking, exclusion, lasso, is_loop, is_lasso}
 use Rattle.record.specs.Readers.{Reader, counts_read}
+use Rattle.refusal.specs.declared.Fault.{Fault}
 use Rattle.judge_conditions.specs.LoopHeld.{loop_held}
 use Rattle.judge_ranking.specs.RankedBy.{RankingBy}
 use Rattle.judge_ranking.specs.RankingHeld.{ranking_held}
@@ -68,14 +70,14 @@ module _ (loopbytes : List ℕ) (n m : ℕ) (l : LoopSound loopbytes n m) where
     unfolding pair_kind
     kind_told k c = c.kind_is
 
-    pub ranking_told_lem : CertificateSound wants loopbytes certificate ranking → (r : Ranked) (before after : List ℤ)
+    pub ranking_told_lem : CertificateSound wants loopbytes certificate ranking → (r : Result Ranked Fault) (before after : List ℤ)
         → RankingBy r (loop_held loopbytes first_row n m) (ranking_held certificate 6 m) before after → RankedOf r p before after
     unfolding Pairs-of.ranked_loop Pairs-of.ranking_of is_lasso
     ranking_told_lem c r before after by =
         let told = kind_told ranking c in
         rw (conditions_ranking p told, told, loop_of, ranking_of c) by
 
-    pub lasso_told_lem : (ms : ℕ) → CertificateSound wants loopbytes certificate lasso → ms ≡ (counts_read record_of).ms → (r : Ranked) (before after : List ℤ)
+    pub lasso_told_lem : (ms : ℕ) → CertificateSound wants loopbytes certificate lasso → ms ≡ (counts_read record_of).ms → (r : Result Ranked Fault) (before after : List ℤ)
         → LassoBy r (loop_held loopbytes first_row n m) (lasso_held certificate n m ms) before after → RankedOf r p before after
     unfolding Pairs-of.ranked_loop Pairs-of.ranking_of is_lasso
     lasso_told_lem ms c ms_is r before after by =

@@ -1,9 +1,10 @@
 -- What the judge's functions are told of the records: that they are sound, with the loop's counts and the certificate's kind; and what
 -- they tell of them.
-use Rattle.std.specs.Prelude.{ℕ, Bool, true, cond, ◌≡◌, List, eqb, ℤ}
-use Rattle.record.specs.Layouts.{Kind, loop, ranking, exclusion, lasso, other, kind_of, has_rank, is_lasso}
+use Rattle.std.specs.Prelude.{ℕ, Bool, cond, ◌≡◌, List, ℤ, Result, Ok, Err}
+use Rattle.record.specs.Layouts.{Kind, loop, ranking, exclusion, lasso, other, is_lasso}
 use Rattle.record.specs.Readers.{kind, counts_read, sound}
 use Rattle.refusal.specs.Tests.{done, first}
+use Rattle.refusal.specs.declared.Fault.{Fault}
 use Rattle.verdict.specs.Judging.{judges, rank_after, judge_of}
 use Rattle.theory.specs.Lassos.{longer}
 use Rattle.theory.specs.Loops.{Loop}
@@ -32,11 +33,10 @@ pub record CertificateSound (wants : Kind → Bool) (loopbytes bytes : List ℕ)
   pub told : first sound (certificate_record wants (loop_record loopbytes) bytes) ≡ done
   pub kind_is : kind (certificate_record wants (loop_record loopbytes) bytes) ≡ k
 
--- one that has a rank, with its kind's number and its count of stem rows
-pub record RankSound (wants : Kind → Bool) (loopbytes bytes : List ℕ) (number ms : ℕ) : Type 0 where
-  pub as_kind : CertificateSound wants loopbytes bytes (kind_of number)
+-- a sound lasso for it, with its count of stem rows
+pub record LassoSound (wants : Kind → Bool) (loopbytes bytes : List ℕ) (ms : ℕ) : Type 0 where
+  pub as_kind : CertificateSound wants loopbytes bytes lasso
   pub ms_is : ms ≡ (counts_read (certificate_record wants (loop_record loopbytes) bytes)).ms
-  pub ranks : has_rank (kind_of number) ≡ true
 
 -- the loop and the ranking that its rank, start and fall are of: kind 2's, or within kind 4 the loop with the added row
 unfoldable pub ranked_loop : Pair → Loop
@@ -52,7 +52,7 @@ unfoldable pub fall_of : Pair → ℤ
 fall_of p = Rankings.fall (ranked_loop p) (ranking_of p)
 
 -- what its conditions tell; and where they hold start, fall and rank
-abbrev pub RankedOf : Ranked → Pair → List ℤ → List ℤ → Type 0
+abbrev pub RankedOf : Result Ranked Fault → Pair → List ℤ → List ℤ → Type 0
 RankedOf r p before after = RankedBy r (conditions p) (ranked_loop p) (ranking_of p) before after
 
 -- its outcome
@@ -64,8 +64,9 @@ rank_outcome lasso start fall = Lasso start fall
 rank_outcome other start fall = Nothing
 
 -- and its verdict, from what its conditions tell
-unfoldable pub verdict_shown : Kind → Ranked → Verdict
-verdict_shown k r = cond (eqb r.number 0) (shows (rank_outcome k r.start r.fall)) (refusal_of 2 r.number r.place)
+unfoldable pub verdict_shown : Kind → Result Ranked Fault → Verdict
+verdict_shown k (Ok r) = shows (rank_outcome k r.start r.fall)
+verdict_shown k (Err f) = refusal_of 2 f.number f.place
 
 -- a verdict and the rank list afterwards are those of judging
 abbrev pub Judged : List ℕ → List ℕ → List ℤ → Verdict → List ℤ → Type 0

@@ -5,12 +5,12 @@
 ghost use Rattle.std.specs.Prelude.{◌≡◌, ℤ, List, length, ◌+◌, ◌*◌, ◌≤◌, ◌<◌};
 ghost use Rattle.endian.specs.Numbers.{little_at};
 ghost use Rattle.judge_exclusion.specs.ExclusionHeld.{exclusion_held};
-ghost use Rattle.record.specs.Layouts.{exclusion, kind_of};
+ghost use Rattle.record.specs.Layouts.{ranking, exclusion};
 ghost use Rattle.record_check.specs.Checks.{Opened};
 ghost use Rattle.verdict.specs.Judging.{judges, rank_after, judge_of, certificates_judged};
 ghost use Rattle.verdict.specs.Outcomes.{grade_of};
 ghost use Rattle.verdict.specs.Stages.{shows, refusal_of};
-ghost use Rattle.judge.specs.SoundPairs.{LoopSound, CertificateSound, RankSound, rank_outcome, verdict_shown, Judged};
+ghost use Rattle.judge.specs.SoundPairs.{LoopSound, CertificateSound, LassoSound, Judged};
 
 use judge_ranking::Ranked;
 use verdict::{Grade, Outcome, Verdict};
@@ -42,74 +42,60 @@ pub fn refused(about: usize, number: usize, place: usize) -> Verdict
     }
 }
 
-// The outcome of a kind that has a rank.
-pub fn rank_outcome(kind: usize, start: i64, fall: i64) -> Outcome
-    ensures { result ≡ rank_outcome (kind_of kind) start fall }
-{
-    match kind {
-        2 => Outcome::Ranking {
-            start: start,
-            fall: fall,
-        },
-        4 => Outcome::Lasso {
-            start: start,
-            fall: fall,
-        },
-        _ => Outcome::Nothing,
-    }
-}
+// ---- of sound records
 
-// The verdict of a kind that has a rank, from what its conditions tell.
-fn ranked_verdict(kind: usize, shown: Ranked) -> Verdict
-    ensures { result ≡ verdict_shown (kind_of kind) shown }
-{
-    if shown.number != 0 {
-        return refused(2, shown.number, shown.place);
-    }
-    accepted(rank_outcome(kind, shown.start, shown.fall))
-}
-
-// Kinds 2 and 4, of sound records.
-pub fn judge_ranked(
+// Kind 2: the rank list, and then the conditions.
+pub fn ranking_sound(
     loopbytes: &[u8],
     n: usize,
     m: usize,
     certificate: &[u8],
-    kind: usize,
-    ms: usize,
     rank: &mut [i64],
 ) -> Verdict
-    requires { LoopSound loopbytes.now n m × RankSound certificates_judged loopbytes.now certificate.now kind ms }
+    requires { LoopSound loopbytes.now n m × CertificateSound certificates_judged loopbytes.now certificate.now ranking }
     ensures { Judged loopbytes.now certificate.now rank.old result rank.new }
 {
     if rank.len() < n {
         return refused(0, 7, n);
     }
-    match kind {
-        2 => ranked_verdict(
-            kind,
-            judge_ranking::ranking(loopbytes, FIRST_ROW, n, m, certificate, rank),
-        ),
-        4 => ranked_verdict(
-            kind,
-            judge_lasso::lasso(loopbytes, FIRST_ROW, n, m, certificate, ms, rank),
-        ),
-        _ => refused(2, 4, 4),
+    match judge_ranking::ranking(loopbytes, FIRST_ROW, n, m, certificate, rank) {
+        Ok(Ranked { start, fall }) => accepted(Outcome::Ranking { start, fall }),
+        Err(fault) => refused(2, fault.number, fault.place),
     }
 }
 
-// Kind 3, of sound records. It has no rank, so the answer is the same for every list.
-fn judge_excluded(loopbytes: &[u8], n: usize, m: usize, certificate: &[u8]) -> Verdict
+// Kind 4, of ms stem rows.
+fn lasso_sound(
+    loopbytes: &[u8],
+    n: usize,
+    m: usize,
+    certificate: &[u8],
+    ms: usize,
+    rank: &mut [i64],
+) -> Verdict
+    requires { LoopSound loopbytes.now n m × LassoSound certificates_judged loopbytes.now certificate.now ms }
+    ensures { Judged loopbytes.now certificate.now rank.old result rank.new }
+{
+    if rank.len() < n {
+        return refused(0, 7, n);
+    }
+    match judge_lasso::lasso(loopbytes, FIRST_ROW, n, m, certificate, ms, rank) {
+        Ok(Ranked { start, fall }) => accepted(Outcome::Lasso { start, fall }),
+        Err(fault) => refused(2, fault.number, fault.place),
+    }
+}
+
+// Kind 3, which has no rank: the answer is the same for every list.
+fn exclusion_sound(loopbytes: &[u8], n: usize, m: usize, certificate: &[u8]) -> Verdict
     requires { LoopSound loopbytes.now n m × CertificateSound certificates_judged loopbytes.now certificate.now exclusion }
     ensures { (lent : List ℤ) → Judged loopbytes.now certificate.now lent result lent }
 {
-    let fault = judge_exclusion::exclusion(loopbytes, FIRST_ROW, n, m, certificate);
-    if fault.number != 0 {
-        return refused(2, fault.number, fault.place);
+    match judge_exclusion::exclusion(loopbytes, FIRST_ROW, n, m, certificate) {
+        Ok(()) => accepted(Outcome::Exclusion {
+            grade: grade(certificate, n),
+        }),
+        Err(fault) => refused(2, fault.number, fault.place),
     }
-    accepted(Outcome::Exclusion {
-        grade: grade(certificate, n),
-    })
 }
 
 // Whole where q divides every entry of W and of V.
@@ -137,11 +123,10 @@ pub fn by_ranking(
     requires { LoopSound loopbytes.now n m × Opened certificate.now 2 n m }
     ensures { Judged loopbytes.now certificate.now rank.old result rank.new }
 {
-    let said = record_check::ranking_record(certificate, n, m);
-    if said.number != 0 {
-        return refused(2, said.number, said.place);
+    match record_check::ranking_record(certificate, n, m) {
+        Ok(_) => ranking_sound(loopbytes, n, m, certificate, rank),
+        Err(fault) => refused(2, fault.number, fault.place),
     }
-    judge_ranked(loopbytes, n, m, certificate, 2, 0, rank)
 }
 
 // Kind 3, which has no rank.
@@ -149,11 +134,10 @@ pub fn by_exclusion(loopbytes: &[u8], n: usize, m: usize, certificate: &[u8]) ->
     requires { LoopSound loopbytes.now n m × Opened certificate.now 3 n m }
     ensures { (lent : List ℤ) → Judged loopbytes.now certificate.now lent result lent }
 {
-    let said = record_check::exclusion_record(certificate, n, m);
-    if said.number != 0 {
-        return refused(2, said.number, said.place);
+    match record_check::exclusion_record(certificate, n, m) {
+        Ok(_) => exclusion_sound(loopbytes, n, m, certificate),
+        Err(fault) => refused(2, fault.number, fault.place),
     }
-    judge_excluded(loopbytes, n, m, certificate)
 }
 
 // Kind 4.
@@ -167,11 +151,10 @@ pub fn by_lasso(
     requires { LoopSound loopbytes.now n m × Opened certificate.now 4 n m }
     ensures { Judged loopbytes.now certificate.now rank.old result rank.new }
 {
-    let said = record_check::lasso_record(certificate, n, m);
-    if said.number != 0 {
-        return refused(2, said.number, said.place);
+    match record_check::lasso_record(certificate, n, m) {
+        Ok(checked) => lasso_sound(loopbytes, n, m, certificate, checked.ms, rank),
+        Err(fault) => refused(2, fault.number, fault.place),
     }
-    judge_ranked(loopbytes, n, m, certificate, 4, said.ms, rank)
 }
 
 // Judges a certificate for a loop record that has been checked, so that a sheet checks its loop once.
@@ -185,9 +168,8 @@ pub fn judge_sound(
     requires { LoopSound loopbytes.now n m }
     ensures { Judged loopbytes.now certificate.now rank.old result rank.new }
 {
-    let head = record_check::frame(certificate);
-    if head.number != 0 {
-        return refused(2, head.number, head.place);
+    if let Err(fault) = record_check::frame(certificate) {
+        return refused(2, fault.number, fault.place);
     }
     match endian::u16_at(certificate, 4) {
         2 => by_ranking(loopbytes, n, m, certificate, rank),

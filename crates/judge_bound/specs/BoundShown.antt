@@ -1,16 +1,12 @@
 -- What the bound's functions are told of the state, and the shape of a refusal.
-use Rattle.std.specs.Prelude.{ℕ, ◌<◌, ◌≡◌, Bool, true, cond, List, eqb, ℤ, pos, nat_abs, ◌+ℤ◌, ◌-ℤ◌, ◌<ℤ◌, length, take}
+use Rattle.std.specs.Prelude.{ℕ, ◌<◌, ◌≡◌, Bool, List, ℤ, pos, nat_abs, ◌+ℤ◌, ◌-ℤ◌, ◌<ℤ◌, length, take}
 use Rattle.std.specs.Int.Signed.{le_z}
 use Rattle.whole.specs.Sums.{dot, Within}
 use Rattle.refusal.specs.Tests.{done, first}
 use Rattle.verdict.specs.StateTests.{state_tests}
-use Rattle.verdict.specs.Stages.{shows, refusal_of}
+use Rattle.verdict.specs.Stages.{refusal_of}
 use Rattle.verdict.specs.declared.Bounded.{Bounded}
-use Rattle.record.specs.Layouts.{kind_of}
-use Rattle.theory.specs.Rankings as Rankings
 use Rattle.judge_lasso.specs.LassoHeld.{lasso_held}
-use Rattle.judge_ranking.specs.declared.Ranked.{Ranked}
-use Rattle.judge.specs.SoundPairs.{rank_outcome}
 
 -- a state that passes its tests: n entries, all in range
 abbrev pub StateFits : List ℤ → ℕ → Type 0
@@ -28,23 +24,7 @@ pub record BoundFits (entries : List ℤ) (n : ℕ) (start fall : ℤ) (state : 
   pub above_fits : nat_abs (dot (take n entries) state -ℤ start) < 9223372036854775808
   pub falls : pos 0 <ℤ fall
 
--- a lasso's invariant at a state, s·x + s0 >= 0; other kinds have none
+-- a lasso's invariant at a state, s·x + s0 >= 0
 unfoldable pub invariant_held : List ℕ → ℕ → ℕ → ℕ → List ℤ → Bool
 invariant_held certificate n m ms state =
     le_z (pos 0) (dot (lasso_held certificate n m ms).s state +ℤ (lasso_held certificate n m ms).s0)
-
-unfoldable pub speaks_held : List ℕ → ℕ → ℕ → ℕ → ℕ → List ℤ → Bool
-speaks_held certificate n m kind ms state = cond (eqb kind 4) (invariant_held certificate n m ms state) true
-
--- the answer of a kind that has a rank, from what its conditions tell: the first that fails; 11 at a state outside the invariant; and
--- otherwise its outcome and the bound
-unfoldable pub bound_shown : Ranked → List ℤ → ℕ → ℕ → List ℕ → ℕ → ℕ → List ℤ → Bounded
-bound_shown shown entries n m certificate kind ms state =
-    cond (eqb shown.number 0)
-    (cond (speaks_held certificate n m kind ms state)
-    (record {
-      verdict = shows (rank_outcome (kind_of kind) shown.start shown.fall);
-      bound = Rankings.bound (take n entries) shown.start shown.fall state;
-    })
-    (no_bound 2 11 0))
-    (no_bound 2 shown.number shown.place)

@@ -7,12 +7,13 @@ ghost use Rattle.whole.specs.Sums.{Within};
 ghost use Rattle.theory.specs.Rankings as Rankings;
 ghost use Rattle.verdict.specs.Bounding.{bounds, bound_of, certificates_bounded};
 ghost use Rattle.judge_lasso.specs.LassoHeld.{LassoIn};
+ghost use Rattle.record.specs.Layouts.{ranking};
 ghost use Rattle.record_check.specs.Checks.{Opened};
-ghost use Rattle.judge.specs.SoundPairs.{LoopSound, RankSound};
-ghost use Rattle.judge_bound.specs.BoundShown.{no_bound, StateFits, BoundFits, invariant_held, speaks_held, bound_shown};
+ghost use Rattle.judge.specs.SoundPairs.{LoopSound, CertificateSound, LassoSound};
+ghost use Rattle.judge_bound.specs.BoundShown.{no_bound, StateFits, BoundFits, invariant_held};
 
 use judge_ranking::Ranked;
-use verdict::Bounded;
+use verdict::{Bounded, Outcome};
 
 // A refusal: it has no bound.
 pub fn refused(about: usize, number: usize, place: usize) -> Bounded
@@ -55,45 +56,9 @@ fn meets_invariant(certificate: &[u8], n: usize, m: usize, ms: usize, state: &[i
     0 <= reached.sum + right
 }
 
-// Whether a certificate's bound is for a state: a lasso's is for those that meet its invariant, a ranking's for all.
-fn speaks_of(certificate: &[u8], n: usize, m: usize, kind: usize, ms: usize, state: &[i64]) -> bool
-    requires { (kind ≡ 4 → LassoIn certificate.now n m ms) × (length state.now ≡ n) × Within 1048576 state.now }
-    ensures { result ≡ speaks_held certificate.now n m kind ms state.now }
-{
-    if kind != 4 {
-        return true;
-    }
-    meets_invariant(certificate, n, m, ms, state)
-}
+// ---- of sound records and a state in range
 
-// The answer of a kind that has a rank, from what its conditions tell: its bound at a state in range.
-fn ranked_bound(
-    shown: Ranked,
-    entries: &[i64],
-    n: usize,
-    m: usize,
-    certificate: &[u8],
-    kind: usize,
-    ms: usize,
-    state: &[i64],
-) -> Bounded
-    requires { (shown.number ≡ 0 → BoundFits entries.now n shown.start shown.fall state.now) × (n ≤ 16)
-        × (kind ≡ 4 → LassoIn certificate.now n m ms) × (length state.now ≡ n) × Within 1048576 state.now }
-    ensures { result ≡ bound_shown shown entries.now n m certificate.now kind ms state.now }
-{
-    if shown.number != 0 {
-        return refused(2, shown.number, shown.place);
-    }
-    if !speaks_of(certificate, n, m, kind, ms, state) {
-        return refused(2, 11, 0);
-    }
-    Bounded {
-        verdict: judge::accepted(judge::rank_outcome(kind, shown.start, shown.fall)),
-        bound: bound_at(entries, n, shown.start, shown.fall, state),
-    }
-}
-
-// Kind 2, of sound records and a state in range.
+// Kind 2: the conditions, and then the bound.
 pub fn ranking_bound(
     loopbytes: &[u8],
     n: usize,
@@ -101,22 +66,27 @@ pub fn ranking_bound(
     certificate: &[u8],
     state: &[i64],
 ) -> Bounded
-    requires { LoopSound loopbytes.now n m × RankSound certificates_bounded loopbytes.now certificate.now 2 0 × StateFits state.now n }
+    requires { LoopSound loopbytes.now n m × CertificateSound certificates_bounded loopbytes.now certificate.now ranking × StateFits state.now n }
     ensures { result ≡ bounds (bound_of loopbytes.now certificate.now state.now) }
 {
     let mut entries = [0i64; 16];
-    let shown = judge_ranking::ranking(
+    match judge_ranking::ranking(
         loopbytes,
         judge::FIRST_ROW,
         n,
         m,
         certificate,
         &mut entries,
-    );
-    ranked_bound(shown, &entries, n, m, certificate, 2, 0, state)
+    ) {
+        Ok(Ranked { start, fall }) => Bounded {
+            verdict: judge::accepted(Outcome::Ranking { start, fall }),
+            bound: bound_at(&entries, n, start, fall, state),
+        },
+        Err(fault) => refused(2, fault.number, fault.place),
+    }
 }
 
-// Kind 4, of the same.
+// Kind 4, of ms stem rows: its bound is for the states that meet the invariant.
 fn lasso_bound(
     loopbytes: &[u8],
     n: usize,
@@ -125,11 +95,11 @@ fn lasso_bound(
     ms: usize,
     state: &[i64],
 ) -> Bounded
-    requires { LoopSound loopbytes.now n m × RankSound certificates_bounded loopbytes.now certificate.now 4 ms × StateFits state.now n }
+    requires { LoopSound loopbytes.now n m × LassoSound certificates_bounded loopbytes.now certificate.now ms × StateFits state.now n }
     ensures { result ≡ bounds (bound_of loopbytes.now certificate.now state.now) }
 {
     let mut entries = [0i64; 16];
-    let shown = judge_lasso::lasso(
+    match judge_lasso::lasso(
         loopbytes,
         judge::FIRST_ROW,
         n,
@@ -137,8 +107,14 @@ fn lasso_bound(
         certificate,
         ms,
         &mut entries,
-    );
-    ranked_bound(shown, &entries, n, m, certificate, 4, ms, state)
+    ) {
+        Err(fault) => refused(2, fault.number, fault.place),
+        Ok(_) if !meets_invariant(certificate, n, m, ms, state) => refused(2, 11, 0),
+        Ok(Ranked { start, fall }) => Bounded {
+            verdict: judge::accepted(Outcome::Lasso { start, fall }),
+            bound: bound_at(&entries, n, start, fall, state),
+        },
+    }
 }
 
 // ---- by the certificate's kind: its frame and kind are right, and the loop is sound
@@ -154,12 +130,10 @@ pub fn by_ranking(
     requires { LoopSound loopbytes.now n m × Opened certificate.now 2 n m }
     ensures { result ≡ bounds (bound_of loopbytes.now certificate.now state.now) }
 {
-    let said = record_check::ranking_record(certificate, n, m);
-    if said.number != 0 {
-        return refused(2, said.number, said.place);
+    if let Err(fault) = record_check::ranking_record(certificate, n, m) {
+        return refused(2, fault.number, fault.place);
     }
-    let fault = judge_state::state_fault(state, n);
-    if fault.number != 0 {
+    if let Err(fault) = judge_state::state_fault(state, n) {
         return refused(0, fault.number, fault.place);
     }
     ranking_bound(loopbytes, n, m, certificate, state)
@@ -170,13 +144,12 @@ pub fn by_lasso(loopbytes: &[u8], n: usize, m: usize, certificate: &[u8], state:
     requires { LoopSound loopbytes.now n m × Opened certificate.now 4 n m }
     ensures { result ≡ bounds (bound_of loopbytes.now certificate.now state.now) }
 {
-    let said = record_check::lasso_record(certificate, n, m);
-    if said.number != 0 {
-        return refused(2, said.number, said.place);
-    }
-    let fault = judge_state::state_fault(state, n);
-    if fault.number != 0 {
+    let checked = match record_check::lasso_record(certificate, n, m) {
+        Ok(checked) => checked,
+        Err(fault) => return refused(2, fault.number, fault.place),
+    };
+    if let Err(fault) = judge_state::state_fault(state, n) {
         return refused(0, fault.number, fault.place);
     }
-    lasso_bound(loopbytes, n, m, certificate, said.ms, state)
+    lasso_bound(loopbytes, n, m, certificate, checked.ms, state)
 }
