@@ -1,10 +1,11 @@
 -- The lasso that bytes hold by its places (01, "Records on file"): ms at 6, the stem rows from 8 on, then s, s0, k, T, k2, H, h0, Y and Z.
-use Rattle.std.specs.Prelude.{ℕ, ◌+◌, ◌*◌, ◌≤◌, List, length}
+use Rattle.std.specs.Prelude.{ℕ, ◌+◌, ◌*◌, ◌≤◌, List, length, pos, neg_ℤ, ◌-ℤ◌, ◌*ℤ◌}
 use Rattle.endian.specs.Numbers.{little_at}
 use Rattle.judge_sums.specs.Lists.{multipliers_from, entries_from, rows_from}
 use Rattle.judge_sums.specs.Places.{right_at}
 use Rattle.theory.specs.Lassos.{Lasso}
 use Rattle.judge_ranking.specs.RankingHeld.{ranking_held}
+use Rattle.judge_weighed.specs.declared.Held.{Held}
 
 abbrev pub s_place : ℕ → ℕ → ℕ
 s_place n ms = 8 + ms * (4 * n + 4)
@@ -50,3 +51,8 @@ lasso_held bytes n m ms =
       h0 = little_at 2 bytes (h0_place n m ms);
       ranking = ranking_held bytes (Y-place n m ms) (m + 1);
     }
+
+-- what start and kept are held to: to carry s·x + s0 >= 0, whose s lies from a place on, from h times itself before a step to k times itself after it
+abbrev pub carrying_held : List ℕ → ℕ → ℕ → ℕ → ℕ → ℕ → Held
+carrying_held bytes n weights s h k =
+    record { weights = weights; v = s; now = pos h; next = neg_ℤ (pos k); limit = (pos k -ℤ pos h) *ℤ right_at bytes (s + 2 * n) }
