@@ -1,5 +1,5 @@
 -- `judge::lasso_sound` meets its contract: what the conditions tell of the places they tell of the records, and so the verdict is judging's.
-use Rattle.std.proofs.Common.{◌≤◌, ◌∙◌, ap, rw, refl, length, arith, rules}
+use Rattle.std.proofs.Common.{◌≤◌, ◌∙◌, ap, refl, length, arith, rules}
 use mir.Syntax.{w64}
 use mir.Val.{SFits}
 use mir.Facts.{to_z-of_z}
@@ -28,8 +28,8 @@ returns-in-Ok c =
     let room : a.n ≤ length a.rank.now = omega arith in
     let by = lasso_told_lem a.loopbytes.now a.n a.m c.requires.0 certificates_judged a.certificate.now a.ms c.requires.1.as_kind c.requires.1.ms_is c.lasso.result a.rank.now c.lasso.new.rank c.lasso.ensures in
     let told = ranked_judged a.loopbytes.now a.n a.m c.requires.0 a.certificate.now a.rank.now lasso c.requires.1.as_kind refl c.lasso.result c.lasso.new.rank by room in
-    let start : SFits w64 c.in-Ok.start = search rules in
-    let fall : SFits w64 c.in-Ok.fall = search rules in
+    let start : SFits w64 c.in-Ok.field-0.start = search rules in
+    let fall : SFits w64 c.in-Ok.field-0.fall = search rules in
     (rw (to_z-of_z start, to_z-of_z fall) at c.accepted.ensures ∙ rw c.in-Ok.is at told.0, told.1)
 
 pub returns-in-Err : goal.returns-in-Err
