@@ -7,7 +7,7 @@ use mathlib.Core.Bool.{true, false}
 use mathlib.Core.List.{List, ◌++◌}
 use native.Mathlib.Omega.{arith}
 use lib.IntN.{ℤ, pos}
-use lib.ListN.{length, take, drop}
+use lib.ListN.{length, take, drop, replicate}
 use lib.Seq.{take-append_seam}
 use lib.Signed.{◌<ℤ◌}
 use Rattle.whole.specs.Sums.{sum, Within}
@@ -43,6 +43,10 @@ use Rattle.judge.proofs.RankKinds.{by_rank}
 use Rattle.judge.proofs.SoundSizes.{loop_kind, counts_are, lasso_long}
 use Rattle.judge.proofs.SoundContents.{lasso_of}
 use Rattle.judge_bound.specs.BoundShown.{no_bound, StateFits, BoundFits, invariant_held}
+
+-- no entry is set before
+abbrev pub blank : List ℤ
+blank = replicate 16 (pos 0)
 
 -- ---- rankings
 

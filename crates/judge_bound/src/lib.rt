@@ -108,12 +108,16 @@ fn lasso_bound(
         ms,
         &mut entries,
     ) {
+        Ok(Ranked { start, fall }) => {
+            if !meets_invariant(certificate, n, m, ms, state) {
+                return refused(2, 11, 0);
+            }
+            Bounded {
+                verdict: judge::accepted(Outcome::Lasso { start, fall }),
+                bound: bound_at(&entries, n, start, fall, state),
+            }
+        }
         Err(fault) => refused(2, fault.number, fault.place),
-        Ok(_) if !meets_invariant(certificate, n, m, ms, state) => refused(2, 11, 0),
-        Ok(Ranked { start, fall }) => Bounded {
-            verdict: judge::accepted(Outcome::Lasso { start, fall }),
-            bound: bound_at(&entries, n, start, fall, state),
-        },
     }
 }
 
