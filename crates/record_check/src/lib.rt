@@ -44,7 +44,7 @@ pub fn frame(bytes: &[u8]) -> Result<(), Fault>
 }
 
 // The last test of a record: `at` is where its values have their first fault, `end` where they end.
-fn ends(at: usize, end: usize) -> Result<(), Fault>
+pub fn ends(at: usize, end: usize) -> Result<(), Fault>
     ensures { result ≡ result_of (ended at end) tt }
 {
     if at < end {
@@ -56,8 +56,8 @@ fn ends(at: usize, end: usize) -> Result<(), Fault>
 // ---- the kinds: layout, length formula and value range of each. A caller that knows the frame and the kind asks for the rest alone
 
 pub fn loop_record(bytes: &[u8]) -> Result<Checked, Fault>
-    requires fact_1 { Framed bytes.now }
-    requires fact_2 { little_at 2 bytes.now 4 ≡ 1 }
+    requires framed { Framed bytes.now }
+    requires numbered { little_at 2 bytes.now 4 ≡ 1 }
     ensures { result ≡ checks (loop_reader bytes.now []) }
 {
     let end = bytes.len();

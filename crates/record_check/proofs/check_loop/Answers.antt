@@ -19,9 +19,9 @@ framed c = frame_passes (loop_reader c.args.bytes.now []) (sym c.in_ok-frame.was
 pub u16_at-requires : goal.u16_at-requires
 u16_at-requires c = (framed c).head
 
-pub loop_record-requires-clause-fact_1 : goal.loop_record-requires-clause-fact_1
+pub loop_record-requires-clause-framed : goal.loop_record-requires-clause-framed
 unfolding loop_reader
-loop_record-requires-clause-fact_1 c = frame_passes (loop_reader c.args.bytes.now []) (sym c.in_ok-frame.was ∙ c.frame.ensures)
+loop_record-requires-clause-framed c = frame_passes (loop_reader c.args.bytes.now []) (sym c.in_ok-frame.was ∙ c.frame.ensures)
 
 pub returns-in_default : goal.returns-in_default
 unfolding kind kind_number loop_reader
