@@ -12,9 +12,8 @@ use borrow.Author.Tests.{leb-true, ltb-true, eqb-true}
 use Rattle.endian.specs.Numbers.{little_at}
 use Rattle.refusal.specs.Places.{Throughout, before_failing}
 use Rattle.refusal.specs.Tests.{done, first}
-use Rattle.refusal.proofs.FaultLaws.{Named}
 use Rattle.refusal.proofs.PlaceLaws.{holds_before}
-use Rattle.refusal.proofs.TestLaws.{Passes, done_passes, zero_done}
+use Rattle.refusal.proofs.TestLaws.{Passes, done_passes}
 use Rattle.record.specs.Fields.{values, in_range}
 use Rattle.record.specs.Layouts.{variable_count, row_count, rows_of}
 use Rattle.record.specs.Ranges.{variables, rows}
@@ -86,11 +85,6 @@ paths_say bytes h =
 pub paths_sound : (bytes : List ℕ) → first sound_paths (bytes_alone bytes) ≡ done → PathsSound bytes
 paths_sound bytes told = paths_say bytes (done_passes sound_paths (bytes_alone bytes) told)
 
--- 0 is told of a sound record alone
-pub paths_named : (bytes : List ℕ) → Named (first sound_paths (bytes_alone bytes))
-unfolding sound_paths is_kind holds_counts is_long fields_fit
-paths_named bytes = zero_done sound_paths (bytes_alone bytes) refl
-
 -- ---- kind 6
 
 pub record LexicographicSound (c : Counted) (bytes : List ℕ) : Type 0 where
@@ -146,7 +140,3 @@ module _ (c : Counted) (bytes : List ℕ) where
 
   pub lexicographic_sound : first (sound_lexicographic c) (bytes_alone bytes) ≡ done → LexicographicSound c bytes
   lexicographic_sound told = lexicographic_says (done_passes (sound_lexicographic c) (bytes_alone bytes) told)
-
-  pub lexicographic_named : Named (first (sound_lexicographic c) (bytes_alone bytes))
-  unfolding sound_lexicographic is_kind holds_counts is_long fields_fit
-  lexicographic_named = zero_done (sound_lexicographic c) (bytes_alone bytes) refl

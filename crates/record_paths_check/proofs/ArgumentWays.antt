@@ -1,4 +1,5 @@
 -- The ways through the order for a record of kind 6, with what its loop counts: what is told at each return of its check.
+use Rattle.std.specs.Prelude.{Ok}
 use mathlib.Core.Path.{◌≡◌, refl, sym, ap, ◌∙◌}
 use Prim.Native.Nat.{ℕ, ◌+◌, ◌*◌, ◌≤◌, ◌<◌}
 use mathlib.Core.Bool.{true, false}
@@ -9,8 +10,7 @@ use lib.IntN.{pos}
 use lib.ListN.{length, drop, replicate}
 use borrow.Author.Tests.{le-leb, lt-leb, eq-eqb, ne_eqb, ltb-true}
 use Rattle.endian.specs.Numbers.{little_at}
-use Rattle.refusal.specs.Faults.{fault_of}
-use Rattle.refusal.specs.Places.{Throughout}
+use Rattle.refusal.specs.Places.{Throughout, before_failing}
 use Rattle.refusal.specs.Tests.{refused, first}
 use Rattle.refusal.proofs.TestLaws.{passed, failed}
 use Rattle.record.specs.Fields.{width, widths}
@@ -21,17 +21,16 @@ use Rattle.record.proofs.FieldLaws.{widths_append}
 use Rattle.record.proofs.Lengths.{widths_replicate}
 use Rattle.record_fields.specs.Runs.{fault}
 use Rattle.record_fields.proofs.FirstFaults.{one_fits, one_out, all_fit, not_all_fit}
-use Rattle.record_check.specs.Checks.{Framed}
+use Rattle.record_check.specs.Checks.{Framed, ended}
 use Rattle.record_paths.specs.PathCertificates.{Counted, components_in, component_in, before_missing, multipliers_before}
 use Rattle.record_paths.specs.PathCertificates.{all_multipliers, components_fields, certificate_fields, certificate_length, sound_lexicographic}
 use Rattle.record_paths.specs.PathFields.{component_counts, component_count, bytes_alone, is_kind, holds_counts, is_long, fields_fit}
 use Rattle.record_paths.proofs.PathWidths.{widths_components}
 use Rattle.record_paths.proofs.RunFields.{within_both}
-use Rattle.record_paths_check.specs.declared.Walked.{Walked}
-use Rattle.record_paths_check.specs.PathChecks.{ended, walked, component_there, ComponentsCounted}
+use Rattle.record_paths_check.specs.PathChecks.{told_along, walked, component_there, ComponentsCounted}
 use Rattle.record_paths_check.proofs.FieldFaults.{count_fits}
 use Rattle.record_paths_check.proofs.OrderWays.{past_frame, ends_so}
-use Rattle.record_paths_check.proofs.PathWalks.{all_pass, whole_sum, whole_small}
+use Rattle.record_paths_check.proofs.PathWalks.{given, along_refused, all_pass, whole_sum, whole_small}
 
 -- the multipliers of path j
 abbrev lists : Counted → List ℕ → ℕ → ℕ
@@ -100,73 +99,71 @@ module _ (c : Counted) (bytes : List ℕ) (components : ℕ) (d : ComponentsCoun
         let few : little_at 4 bytes 0 < 4 + 2 * c.paths = omega (arith, d.frame.whole) in
         past_count ∙ failed _ _ _ _ (bytes_alone bytes) (lt-leb _ _ few)
 
-    -- a walk along the component numbers
-    module _ (there : 8 + 2 * paths ≤ length bytes) (v : Walked)
-        (is : v ≡ walked paths (component_there components bytes) (lists c bytes)) where
+    module _ (there : 8 + 2 * paths ≤ length bytes) where
       numbers_there : first (sound_lexicographic c) (bytes_alone bytes) ≡ first (drop 8 (sound_lexicographic c)) (bytes_alone bytes)
       unfolding sound_lexicographic holds_counts stated_length bytes_alone
       numbers_there =
           let enough : 4 + 2 * c.paths ≤ little_at 4 bytes 0 = omega (arith, d.frame.whole) in
           past_count ∙ passed _ _ _ _ (bytes_alone bytes) (le-leb _ _ enough)
 
-      stopped : v.paths ≡ before_missing c bytes
-      unfolding walked before_missing
-      stopped = ap (λ (x : Walked). x.paths) is ∙ rw (read, d.read)
+      before_missing_is : before_failing paths (component_there components bytes) ≡ before_missing c bytes
+      unfolding before_missing
+      before_missing_is = rw (read, d.read)
 
-      pub missing : v.paths < paths → Tells c bytes 14 (8 + 2 * v.paths)
+      pub missing : {k p : ℕ} → told_along 14 8 paths (component_there components bytes) ≡ refused k p → Tells c bytes k p
       unfolding sound_lexicographic bytes_alone
-      missing below =
-          numbers_there ∙ failed _ _ _ _ (bytes_alone bytes) (ne_eqb (before_missing c bytes) c.paths (λ e. omega (arith, e, stopped)))
-          ∙ ap (λ k. refused 14 (8 + 2 * k)) (sym stopped)
+      missing told =
+          let stop = along_refused 14 8 paths (component_there components bytes) told in
+          let some = ne_eqb (before_missing c bytes) c.paths (λ e. omega (arith, e, before_missing_is, stop.0)) in
+          numbers_there ∙ failed _ _ _ _ (bytes_alone bytes) some ∙ ap (λ k. refused 14 (8 + 2 * k)) (sym before_missing_is) ∙ stop.1
 
-      -- that came to the end
-      module _ (end : paths ≤ v.paths) where
+      -- a walk along the component numbers that came to the end
+      module _ (sum : ℕ) (is : given (Ok sum) ≡ walked 14 8 paths (component_there components bytes) (lists c bytes)) where
         past_numbers : first (sound_lexicographic c) (bytes_alone bytes) ≡ first (drop 9 (sound_lexicographic c)) (bytes_alone bytes)
-        unfolding sound_lexicographic bytes_alone before_missing
+        unfolding sound_lexicographic bytes_alone
         past_numbers =
-            let all : before_missing c bytes ≡ c.paths
-            = rw (← d.read, ← read) (all_pass paths (component_there components bytes) (lists c bytes) v is end) in
-            numbers_there ∙ passed _ _ _ _ (bytes_alone bytes) (eq-eqb _ _ all)
+            let all = all_pass 14 8 paths (component_there components bytes) (lists c bytes) sum is in
+            numbers_there ∙ passed _ _ _ _ (bytes_alone bytes) (eq-eqb _ _ (sym before_missing_is ∙ all ∙ read))
 
-        summed : v.sum ≡ all_multipliers c bytes
+        summed : sum ≡ all_multipliers c bytes
         unfolding all_multipliers multipliers_before
-        summed = rw (← read) (whole_sum paths (component_there components bytes) (lists c bytes) v is end)
+        summed = rw (← read) (whole_sum 14 8 paths (component_there components bytes) (lists c bytes) sum is)
 
         -- the formula stays small
-        pub lists_small : Throughout paths (λ j. c.m j ≤ 64) → v.sum ≤ paths * 576
+        pub lists_small : Throughout paths (λ j. c.m j ≤ 64) → sum ≤ paths * 576
         lists_small few =
-            whole_small paths (component_there components bytes) (lists c bytes) v is end 576
+            whole_small 14 8 paths (component_there components bytes) (lists c bytes) sum is 576
             (λ j below fit.
             let early : component_in bytes j < components = ltb-true _ _ fit in
             let number : 2 + component_in bytes j ≤ 9 = omega (arith, few_components) in
             mul-le-mul (few j below) number)
 
         module _ (n : ℕ) (n_read : n ≡ c.n) where
-          formula : 4 + certificate_length c bytes ≡ 8 + 2 * paths + components * (4 * n + 8) + 2 * v.sum
+          formula : 4 + certificate_length c bytes ≡ 8 + 2 * paths + components * (4 * n + 8) + 2 * sum
           unfolding certificate_length
           formula = rw (d.read, read, n_read, summed) (omega arith)
 
-          pub bad_length : (length bytes ≡ 8 + 2 * paths + components * (4 * n + 8) + 2 * v.sum → ⊥) → Tells c bytes 3 0
+          pub bad_length : (length bytes ≡ 8 + 2 * paths + components * (4 * n + 8) + 2 * sum → ⊥) → Tells c bytes 3 0
           unfolding sound_lexicographic is_long stated_length bytes_alone
           bad_length h =
               past_numbers ∙ failed _ _ _ _ (bytes_alone bytes) (ne_eqb _ _ (λ e. h (d.frame.whole ∙ ap (λ k. 4 + k) e ∙ formula)))
 
-          same_fields : certificate_fields c bytes ≡ components_fields n components ++ replicate v.sum multiplier
+          same_fields : certificate_fields c bytes ≡ components_fields n components ++ replicate sum multiplier
           unfolding certificate_fields
           same_fields = rw (d.read, n_read, summed)
 
-          wide : widths (certificate_fields c bytes) ≡ components * (4 * n + 8) + 2 * v.sum
+          wide : widths (certificate_fields c bytes) ≡ components * (4 * n + 8) + 2 * sum
           unfolding width multiplier
           wide = rw (same_fields, widths_append, widths_components, widths_replicate) (omega arith)
 
-          pub values_told : length bytes ≡ 8 + 2 * paths + components * (4 * n + 8) + 2 * v.sum → (at : ℕ)
-              → at ≡ fault (components_fields n components ++ replicate v.sum multiplier) bytes (8 + 2 * paths)
-              → ended at (length bytes) ≡ fault_of (first (sound_lexicographic c) (bytes_alone bytes))
+          pub values_told : length bytes ≡ 8 + 2 * paths + components * (4 * n + 8) + 2 * sum → (at : ℕ)
+              → at ≡ fault (components_fields n components ++ replicate sum multiplier) bytes (8 + 2 * paths)
+              → first (sound_lexicographic c) (bytes_alone bytes) ≡ ended at (length bytes)
           unfolding sound_lexicographic is_long stated_length bytes_alone
           values_told long at told =
               let same : little_at 4 bytes 0 ≡ certificate_length c bytes = omega (arith, d.frame.whole, formula) in
               ends_so bytes (λ r. 8 + 2 * c.paths) (λ r. certificate_fields c r.bytes)
               (past_numbers ∙ passed _ _ _ _ (bytes_alone bytes) (eq-eqb _ _ same))
               (omega (arith, wide)) at
-              (told ∙ ap (λ k. fault (components_fields n components ++ replicate v.sum multiplier) bytes (8 + 2 * k)) read
+              (told ∙ ap (λ k. fault (components_fields n components ++ replicate sum multiplier) bytes (8 + 2 * k)) read
               ∙ ap (λ fs. fault fs bytes (8 + 2 * c.paths)) (sym same_fields))

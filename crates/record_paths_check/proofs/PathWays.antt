@@ -1,4 +1,5 @@
 -- The ways through the order for a record of kind 5: what is told at each return of its check.
+use Rattle.std.specs.Prelude.{Ok}
 use mathlib.Core.Path.{◌≡◌, refl, sym, ap, ◌∙◌}
 use Prim.Native.Nat.{ℕ, ◌+◌, ◌*◌, ◌≤◌, ◌<◌}
 use mathlib.Core.Bool.{true, false}
@@ -9,7 +10,6 @@ use lib.IntN.{pos}
 use lib.ListN.{length, drop, replicate}
 use borrow.Author.Tests.{le-leb, lt-leb, eq-eqb, ne_eqb}
 use Rattle.endian.specs.Numbers.{little_at}
-use Rattle.refusal.specs.Faults.{fault_of}
 use Rattle.refusal.specs.Places.{before_failing}
 use Rattle.refusal.specs.Tests.{refused, first}
 use Rattle.refusal.proofs.TestLaws.{passed, failed}
@@ -21,15 +21,14 @@ use Rattle.record.proofs.CountLimits.{variables_most, rows_most}
 use Rattle.record.proofs.Lengths.{widths_replicate, widths_rows}
 use Rattle.record_fields.specs.Runs.{fault}
 use Rattle.record_fields.proofs.FirstFaults.{fault_none, fault_next, fault_here, all_fit, not_all_fit}
-use Rattle.record_check.specs.Checks.{Framed}
+use Rattle.record_check.specs.Checks.{Framed, ended}
 use Rattle.record_paths.specs.PathFields.{path_counts, path_count, bytes_alone, is_kind, holds_counts, is_long, fields_fit}
 use Rattle.record_paths.specs.PathLoops.{variables_in, paths_in, rows_in, all_rows, rows_before, paths_length, sound_paths}
 use Rattle.record_paths.proofs.RunFields.{within_both}
-use Rattle.record_paths_check.specs.declared.Walked.{Walked}
-use Rattle.record_paths_check.specs.PathChecks.{ended, walked, m_fits, PathsCounted}
+use Rattle.record_paths_check.specs.PathChecks.{told_along, walked, m_fits, PathsCounted}
 use Rattle.record_paths_check.proofs.FieldFaults.{count_fits, run_fault}
 use Rattle.record_paths_check.proofs.OrderWays.{past_frame, ends_so}
-use Rattle.record_paths_check.proofs.PathWalks.{all_pass, whole_sum, whole_small}
+use Rattle.record_paths_check.proofs.PathWalks.{given, along_refused, all_pass, whole_sum, whole_small}
 
 module _ (bytes : List ℕ) where
   -- what is told of the record
@@ -128,11 +127,12 @@ module _ (bytes : List ℕ) (n paths : ℕ) (c : PathsCounted bytes n paths) whe
     unfolding width row_count
     ms_wide = rw (widths_replicate, ← c.paths_read) (omega arith)
 
-    pub bad_m : (k : ℕ) → k ≡ before_failing paths (m_fits bytes) → k < paths → Tells bytes 5 (10 + 2 * k)
+    pub bad_m : {k p : ℕ} → told_along 5 10 paths (m_fits bytes) ≡ refused k p → Tells bytes k p
     unfolding sound_paths fields_fit bytes_alone fault before
-    bad_m k is below =
-        let out = not_all_fit bytes (replicate (paths_in bytes) row_count) 10 (omega (arith, ms_fault, ms_wide, is)) in
-        ms_there ∙ failed _ _ _ _ (bytes_alone bytes) out ∙ ap (λ at. refused 5 at) (ms_fault ∙ rw is)
+    bad_m told =
+        let stop = along_refused 5 10 paths (m_fits bytes) told in
+        let out = not_all_fit bytes (replicate (paths_in bytes) row_count) 10 (omega (arith, ms_fault, ms_wide, stop.0)) in
+        ms_there ∙ failed _ _ _ _ (bytes_alone bytes) out ∙ ap (λ at. refused 5 at) ms_fault ∙ stop.1
 
     module _ (all : before_failing paths (m_fits bytes) ≡ paths) where
       past_ms : first sound_paths (bytes_alone bytes) ≡ first (drop 9 sound_paths) (bytes_alone bytes)
@@ -149,7 +149,7 @@ module _ (bytes : List ℕ) (n paths : ℕ) (c : PathsCounted bytes n paths) whe
           past_ms ∙ failed _ _ _ _ (bytes_alone bytes) (ne_eqb _ _ (λ e. h (c.frame.whole ∙ ap (λ k. 4 + k) e ∙ formula)))
 
       values_so : length bytes ≡ 10 + 2 * paths + all_rows bytes * (4 * n + 4) → (at : ℕ)
-          → at ≡ fault (rows_of n (all_rows bytes)) bytes (10 + 2 * paths) → ended at (length bytes) ≡ fault_of (first sound_paths (bytes_alone bytes))
+          → at ≡ fault (rows_of n (all_rows bytes)) bytes (10 + 2 * paths) → first sound_paths (bytes_alone bytes) ≡ ended at (length bytes)
       unfolding sound_paths is_long stated_length bytes_alone fields_fit
       values_so long at told =
           let same : little_at 4 bytes 0 ≡ paths_length bytes = omega (arith, c.frame.whole, formula) in
@@ -159,28 +159,28 @@ module _ (bytes : List ℕ) (n paths : ℕ) (c : PathsCounted bytes n paths) whe
           at (rw (← c.n_read, ← c.paths_read) told)
 
   -- a walk along the m's that came to the end
-  module _ (v : Walked) (is : v ≡ walked paths (m_fits bytes) (rows_in bytes)) (end : paths ≤ v.paths) where
+  module _ (sum : ℕ) (is : given (Ok sum) ≡ walked 5 10 paths (m_fits bytes) (rows_in bytes)) where
     all_in_range : before_failing paths (m_fits bytes) ≡ paths
-    all_in_range = all_pass paths (m_fits bytes) (rows_in bytes) v is end
+    all_in_range = all_pass 5 10 paths (m_fits bytes) (rows_in bytes) sum is
 
-    summed : v.sum ≡ all_rows bytes
+    summed : sum ≡ all_rows bytes
     unfolding all_rows rows_before
-    summed = rw (← c.paths_read) (whole_sum paths (m_fits bytes) (rows_in bytes) v is end)
+    summed = rw (← c.paths_read) (whole_sum 5 10 paths (m_fits bytes) (rows_in bytes) sum is)
 
     -- the formula stays small
-    pub rows_small : v.sum * (4 * n + 4) ≤ 512 * 68
+    pub rows_small : sum * (4 * n + 4) ≤ 512 * 68
     rows_small =
-        let sum = whole_small paths (m_fits bytes) (rows_in bytes) v is end 64 (λ j below fit. rows_most (rows_in bytes j) fit) in
-        let few : v.sum ≤ 512 = omega (arith, sum, few_paths) in
+        let most = whole_small 5 10 paths (m_fits bytes) (rows_in bytes) sum is 64 (λ j below fit. rows_most (rows_in bytes j) fit) in
+        let few : sum ≤ 512 = omega (arith, most, few_paths) in
         let wide : 4 * n + 4 ≤ 68 = omega (arith, small_n) in
         mul-le-mul few wide
 
     module _ (there : 10 + 2 * paths ≤ length bytes) where
-      pub bad_length : (length bytes ≡ 10 + 2 * paths + v.sum * (4 * n + 4) → ⊥) → Tells bytes 3 0
-      bad_length h = wrong_length there all_in_range (λ e. h (e ∙ ap (λ sum. 10 + 2 * paths + sum * (4 * n + 4)) (sym summed)))
+      pub bad_length : (length bytes ≡ 10 + 2 * paths + sum * (4 * n + 4) → ⊥) → Tells bytes 3 0
+      bad_length h = wrong_length there all_in_range (λ e. h (e ∙ ap (λ k. 10 + 2 * paths + k * (4 * n + 4)) (sym summed)))
 
-      pub values_told : length bytes ≡ 10 + 2 * paths + v.sum * (4 * n + 4) → (at : ℕ) → at ≡ fault (rows_of n v.sum) bytes (10 + 2 * paths)
-          → ended at (length bytes) ≡ fault_of (first sound_paths (bytes_alone bytes))
+      pub values_told : length bytes ≡ 10 + 2 * paths + sum * (4 * n + 4) → (at : ℕ) → at ≡ fault (rows_of n sum) bytes (10 + 2 * paths)
+          → first sound_paths (bytes_alone bytes) ≡ ended at (length bytes)
       values_told long at told =
-          values_so there all_in_range (long ∙ ap (λ sum. 10 + 2 * paths + sum * (4 * n + 4)) summed) at
-          (told ∙ ap (λ sum. fault (rows_of n sum) bytes (10 + 2 * paths)) summed)
+          values_so there all_in_range (long ∙ ap (λ k. 10 + 2 * paths + k * (4 * n + 4)) summed) at
+          (told ∙ ap (λ k. fault (rows_of n k) bytes (10 + 2 * paths)) summed)

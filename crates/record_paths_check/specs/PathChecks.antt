@@ -1,27 +1,24 @@
 -- What the parts of a check of kinds 5 and 6 answer; the whole answers by `sound_paths` and `sound_lexicographic` of `record_paths`.
-use Rattle.std.specs.Prelude.{ℕ, ◌+◌, ◌*◌, ◌≤◌, ◌≡◌, Bool, true, cond, List, ltb, pos, length}
+use Rattle.std.specs.Prelude.{ℕ, ◌+◌, ◌*◌, ◌≤◌, ◌≡◌, Bool, true, cond, List, ltb, eqb, pos, length, Result}
 use Rattle.endian.specs.Numbers.{little_at}
 use Rattle.refusal.specs.declared.Fault.{Fault}
+use Rattle.refusal.specs.Faults.{result_of}
 use Rattle.refusal.specs.Places.{before_failing}
-use Rattle.refusal.specs.Tests.{done, first}
+use Rattle.refusal.specs.Tests.{Told, done, refused, first}
 use Rattle.record.specs.Ranges.{variables, rows, within}
 use Rattle.record_check.specs.Checks.{Framed}
 use Rattle.record_paths.specs.PathCertificates.{components_in, component_in}
 use Rattle.record_paths.specs.PathFields.{path_counts, component_counts, sum_of, bytes_alone}
 use Rattle.record_paths.specs.PathLoops.{variables_in, paths_in, rows_in, sound_paths}
-use Rattle.record_paths_check.specs.declared.Walked.{Walked}
 
--- a number and a place
-abbrev pub tells : ℕ → ℕ → Fault
-tells number place = record { number = number; place = place }
+-- what is told of paths that have a number each, the first of them at a place: a refusal at the first number that fails a test
+unfoldable pub told_along : ℕ → ℕ → ℕ → (ℕ → Bool) → Told
+told_along number place paths holds =
+    cond (eqb (before_failing paths holds) paths) done (refused number (place + 2 * before_failing paths holds))
 
--- the last test: a fault before the end, or none
-unfoldable pub ended : ℕ → ℕ → Fault
-ended at end = cond (ltb at end) (tells 6 at) (tells 0 0)
-
--- a walk along paths up to the first at which a test fails: how many come before it, and the sum of what these have
-unfoldable pub walked : ℕ → (ℕ → Bool) → (ℕ → ℕ) → Walked
-walked paths holds has = record { paths = before_failing paths holds; sum = sum_of (before_failing paths holds) has }
+-- a walk along them: the sum of what the paths have, or the refusal
+unfoldable pub walked : ℕ → ℕ → ℕ → (ℕ → Bool) → (ℕ → ℕ) → Result ℕ Fault
+walked number place paths holds has = result_of (told_along number place paths holds) (sum_of paths has)
 
 -- the m of path j is a count of rows
 abbrev pub m_fits : List ℕ → ℕ → Bool

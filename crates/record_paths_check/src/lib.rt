@@ -3,82 +3,60 @@
 #![tactic(auto)]
 
 ghost use Rattle.std.specs.Prelude.{◌+◌, ◌*◌, ◌≤◌, ◌≡◌, ◌++◌, length, replicate};
-ghost use Rattle.refusal.specs.Faults.{fault_of};
+ghost use Rattle.refusal.specs.Faults.{result_of};
 ghost use Rattle.refusal.specs.Tests.{done, first};
 ghost use Rattle.record.specs.Layouts.{multiplier};
 ghost use Rattle.record_fields.specs.Runs.{fits, fault};
 ghost use Rattle.record_paths.specs.PathCertificates.{counted, component_fields, components_fields, sound_lexicographic};
 ghost use Rattle.record_paths.specs.PathFields.{fall, bytes_alone};
 ghost use Rattle.record_paths.specs.PathLoops.{rows_in, sound_paths};
-ghost use Rattle.record_paths_check.specs.PathChecks.{tells, ended, walked, m_fits, component_there, multipliers_of};
+ghost use Rattle.record_paths_check.specs.PathChecks.{walked, m_fits, component_there, multipliers_of};
 ghost use Rattle.record_paths_check.specs.PathChecks.{PathsCounted, ComponentsCounted, Numbered};
 
-use refusal::Fault;
-
-pub fn told(number: usize, place: usize) -> Fault
-    ensures { result ≡ tells number place }
-{
-    Fault {
-        number: number,
-        place: place,
-    }
-}
-
-// The last test of a record: `at` is where its values have their first fault, `end` where they end.
-pub fn ends(at: usize, end: usize) -> Fault
-    ensures { result ≡ ended at end }
-{
-    if at < end { told(6, at) } else { told(0, 0) }
-}
+use refusal::{Fault, refused};
 
 // ---- walks along the paths: each is tested and counted at once
 
-// How many paths come before the first that fails, and the sum of what these have.
-#[derive(Clone, Copy)]
-struct Walked {
-    paths: usize,
-    sum: usize,
-}
-
-// The m of each path is a count of rows; the sum of them.
-fn rows_walked(bytes: &[u8], paths: usize) -> Walked
+// The sum of the m's, if each is a count of rows.
+fn rows_walked(bytes: &[u8], paths: usize) -> Result<usize, Fault>
     requires { (paths ≤ 8) × (10 + 2 * paths ≤ length bytes.now) }
-    ensures { result ≡ walked paths (m_fits bytes.now) (rows_in bytes.now) }
+    ensures { result ≡ walked 5 10 paths (m_fits bytes.now) (rows_in bytes.now) }
 {
     let mut sum = 0;
     for j in 0..paths {
-        let m = endian::u16_at(bytes, 10 + 2 * j);
+        let place = 10 + 2 * j;
+        let m = endian::u16_at(bytes, place);
         if !record_faults::rows_fit(m) {
-            return Walked { paths: j, sum: sum };
+            return refused(5, place);
         }
         sum += m;
     }
-    Walked {
-        paths: paths,
-        sum: sum,
-    }
+    Ok(sum)
 }
 
-// The component number of each path exists; the multipliers of all its lists.
-fn lists_walked(loopbytes: &[u8], bytes: &[u8], paths: usize, components: usize) -> Walked
-    requires fact_1 { Numbered loopbytes.now bytes.now paths }
-    requires fact_2 { components ≤ 8 }
-    ensures { result ≡ walked paths (component_there components bytes.now)
+// The multipliers of all lists, if the component number of each path exists.
+fn lists_walked(
+    loopbytes: &[u8],
+    bytes: &[u8],
+    paths: usize,
+    components: usize,
+) -> Result<usize, Fault>
+    requires numbered { Numbered loopbytes.now bytes.now paths }
+    requires few_components { components ≤ 8 }
+    ensures { result ≡ walked 14 8 paths (component_there components bytes.now)
         (multipliers_of loopbytes.now bytes.now) }
 {
     let mut sum = 0;
     for j in 0..paths {
-        let component = endian::u16_at(bytes, 8 + 2 * j);
+        let place = 8 + 2 * j;
+        let component = endian::u16_at(bytes, place);
         if components <= component {
-            return Walked { paths: j, sum: sum };
+            return refused(14, place);
         }
         let m = endian::u16_at(loopbytes, 10 + 2 * j);
         sum += m * (2 + component);
     }
-    Walked {
-        paths: paths,
-        sum: sum,
-    }
+    Ok(sum)
 }
 
 // ---- the values of kind 6
@@ -146,46 +124,40 @@ fn argument_fault(bytes: &[u8], place: usize, n: usize, components: usize, count
 // ---- kind 5
 
 // The m of each path, the length formula and the rows.
-fn rows_told(bytes: &[u8], n: usize, paths: usize) -> Fault
+fn rows_told(bytes: &[u8], n: usize, paths: usize) -> Result<(), Fault>
     requires { PathsCounted bytes.now n paths }
-    ensures { result ≡ fault_of (first sound_paths (bytes_alone bytes.now)) }
+    ensures { result ≡ result_of (first sound_paths (bytes_alone bytes.now)) tt }
 {
     let end = bytes.len();
     let start = 10 + 2 * paths;
     if end < start {
-        return told(3, 0);
+        return refused(3, 0);
     }
-    let walk = rows_walked(bytes, paths);
-    if walk.paths < paths {
-        return told(5, 10 + 2 * walk.paths);
+    let rows = rows_walked(bytes, paths)?;
+    if end != start + rows * (4 * n + 4) {
+        return refused(3, 0);
     }
-    if end != start + walk.sum * (4 * n + 4) {
-        return told(3, 0);
-    }
-    ends(record_faults::rows_fault(bytes, start, n, walk.sum), end)
+    record_check::ends(record_faults::rows_fault(bytes, start, n, rows), end)
 }
 
 // Whether bytes are a sound record of kind 5.
-pub fn check_paths(bytes: &[u8]) -> Fault
-    ensures { result ≡ fault_of (first sound_paths (bytes_alone bytes.now)) }
+pub fn check_paths(bytes: &[u8]) -> Result<(), Fault>
+    ensures { result ≡ result_of (first sound_paths (bytes_alone bytes.now)) tt }
 {
-    let head = record_check::frame(bytes);
-    if head.number != 0 {
-        return told(head.number, head.place);
-    }
+    record_check::frame(bytes)?;
     if endian::u16_at(bytes, 4) != 5 {
-        return told(4, 4);
+        return refused(4, 4);
     }
     if bytes.len() < 10 {
-        return told(3, 0);
+        return refused(3, 0);
     }
     let n = endian::u16_at(bytes, 6);
     if !record_faults::variables_fit(n) {
-        return told(5, 6);
+        return refused(5, 6);
     }
     let paths = endian::u16_at(bytes, 8);
     if !record_faults::between(paths, 1, 8) {
-        return told(5, 8);
+        return refused(5, 8);
     }
     rows_told(bytes, n, paths)
 }
@@ -193,46 +165,43 @@ pub fn check_paths(bytes: &[u8]) -> Fault
 // ---- kind 6
 
 // The component number of each path, the length formula, the components and the multipliers.
-fn lists_told(loopbytes: &[u8], bytes: &[u8], components: usize) -> Fault
-    requires fact_1 { first sound_paths (bytes_alone loopbytes.now) ≡ done }
-    requires fact_2 { ComponentsCounted bytes.now components }
-    ensures { result ≡ fault_of (first (sound_lexicographic (counted loopbytes.now)) (bytes_alone bytes.now)) }
+fn lists_told(loopbytes: &[u8], bytes: &[u8], components: usize) -> Result<(), Fault>
+    requires loop_sound { first sound_paths (bytes_alone loopbytes.now) ≡ done }
+    requires components_counted { ComponentsCounted bytes.now components }
+    ensures { result ≡ result_of (first (sound_lexicographic (counted loopbytes.now)) (bytes_alone bytes.now)) tt }
 {
     let end = bytes.len();
     let paths = endian::u16_at(loopbytes, 8);
     let start = 8 + 2 * paths;
     if end < start {
-        return told(3, 0);
+        return refused(3, 0);
     }
-    let walk = lists_walked(loopbytes, bytes, paths, components);
-    if walk.paths < paths {
-        return told(14, 8 + 2 * walk.paths);
-    }
+    let multipliers = lists_walked(loopbytes, bytes, paths, components)?;
     let n = endian::u16_at(loopbytes, 6);
-    if end != start + components * (4 * n + 8) + 2 * walk.sum {
-        return told(3, 0);
+    if end != start + components * (4 * n + 8) + 2 * multipliers {
+        return refused(3, 0);
     }
-    ends(argument_fault(bytes, start, n, components, walk.sum), end)
+    record_check::ends(
+        argument_fault(bytes, start, n, components, multipliers),
+        end,
+    )
 }
 
 // Whether bytes are a sound record of kind 6 for a sound loop of kind 5.
-pub fn check_lexicographic(loopbytes: &[u8], bytes: &[u8]) -> Fault
+pub fn check_lexicographic(loopbytes: &[u8], bytes: &[u8]) -> Result<(), Fault>
     requires { first sound_paths (bytes_alone loopbytes.now) ≡ done }
-    ensures { result ≡ fault_of (first (sound_lexicographic (counted loopbytes.now)) (bytes_alone bytes.now)) }
+    ensures { result ≡ result_of (first (sound_lexicographic (counted loopbytes.now)) (bytes_alone bytes.now)) tt }
 {
-    let head = record_check::frame(bytes);
-    if head.number != 0 {
-        return told(head.number, head.place);
-    }
+    record_check::frame(bytes)?;
     if endian::u16_at(bytes, 4) != 6 {
-        return told(4, 4);
+        return refused(4, 4);
     }
     if bytes.len() < 8 {
-        return told(3, 0);
+        return refused(3, 0);
     }
     let components = endian::u16_at(bytes, 6);
     if !record_faults::between(components, 1, 8) {
-        return told(5, 6);
+        return refused(5, 6);
     }
     lists_told(loopbytes, bytes, components)
 }

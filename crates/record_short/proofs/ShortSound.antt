@@ -12,8 +12,8 @@ use lib.Seq.{drop-drop}
 use borrow.Author.Tests.{le-leb, leb-true, lt-ltb, ltb-true, eq-eqb, eqb-true, ne_eqb}
 use Rattle.endian.specs.Numbers.{little_at}
 use Rattle.refusal.specs.Places.{Throughout}
+use Rattle.refusal.specs.Tests as Tests
 use Rattle.refusal.specs.Tests.{done, first}
-use Rattle.refusal.proofs.FaultLaws.{Named}
 use Rattle.refusal.proofs.PlaceLaws.{before_all, holds_before}
 use Rattle.refusal.proofs.TestLaws.{Passes, done_passes, passes_done, zero_done, both_true, true_both, either}
 use Rattle.record.specs.Fields.{u16, width, number, Field, values, in_range}
@@ -232,7 +232,7 @@ module _ (n m : ℕ) (bytes : List ℕ) where
     sound_done = passes_done (sound_short n m) (bytes_alone bytes) passes
 
   -- 0 is told of a sound record alone
-  pub short_named : Named (first (sound_short n m) (bytes_alone bytes))
+  pub short_named : Tests.number (first (sound_short n m) (bytes_alone bytes)) ≡ 0 → first (sound_short n m) (bytes_alone bytes) ≡ done
   unfolding sound_short is_kind holds_counts is_long fields_fit
   short_named = zero_done (sound_short n m) (bytes_alone bytes) refl
 
