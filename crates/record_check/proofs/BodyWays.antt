@@ -1,5 +1,5 @@
 -- The ways through the order for a record whose frame is right, of any kind and for any call: what a check answers at each return from the kind on.
-use mathlib.Core.Path.{◌≡◌, sym, ap, ◌∙◌}
+use mathlib.Core.Path.{◌≡◌, ap, ◌∙◌}
 use Prim.Native.Nat.{ℕ, ◌+◌, ◌≤◌, ◌<◌}
 use mathlib.Core.Bool.{Bool, true, false}
 use mathlib.Core.List.{List, []}
@@ -14,11 +14,11 @@ use Rattle.refusal.proofs.TestLaws.{passed, failed, passes_done, first_then}
 use Rattle.record.specs.Fields.{u16, Field, width, number, widths}
 use Rattle.record.specs.Layouts.{is_known, counts, length_of}
 use Rattle.record.specs.Ranges.{within}
-use Rattle.record.specs.Readers.{Reader, framing, stated_length, kind_number, kind, counts_read, fields, list_start, count_list, list, arguments_fit, sound}
+use Rattle.record.specs.Readers.{Reader, framing, stated_length, kind, counts_read, fields, list_start, count_list, list, arguments_fit, sound}
 use Rattle.record.proofs.Lengths.{length_law}
 use Rattle.record_fields.specs.Runs.{field_number_at, fits, fault}
 use Rattle.record_fields.proofs.FirstFaults.{all_fit, not_all_fit, fault_within}
-use Rattle.record_check.specs.Checks.{said, checks, Framed, ended}
+use Rattle.record_check.specs.Checks.{checks, Framed, ended}
 use Rattle.record_check.proofs.FrameWays.{refusal, says}
 
 module _ (r : Reader) (f : Framed r.bytes) where

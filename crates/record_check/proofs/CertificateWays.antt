@@ -1,6 +1,6 @@
 -- The ways through the order for a certificate's record, over plain numbers: its kind and its arguments, and then a kind with no count in its body.
 use Rattle.std.specs.Prelude.{Ok, Err}
-use mathlib.Core.Path.{◌≡◌, sym, ◌∙◌}
+use mathlib.Core.Path.{◌≡◌}
 use Prim.Native.Nat.{ℕ, ◌+◌, ◌≤◌}
 use mathlib.Core.Bool.{Bool, true, false, ◌&&◌}
 use mathlib.Core.List.{List, []}

@@ -9,8 +9,7 @@ use mathlib.Core.List.{List, []}
 use lib.IntN.{ℤ}
 use lib.ListN.{length}
 use Rattle.refusal.specs.declared.Fault.{Fault}
-use Rattle.refusal.specs.Faults.{result_of}
-use Rattle.refusal.specs.Tests.{Told, done, refused, first}
+use Rattle.refusal.specs.Tests.{done, refused, first}
 use Rattle.refusal.proofs.FaultLaws.{told_done, told_given, told_refused}
 use Rattle.record.specs.Readers.{Reader, stated_length, kind_number, kind, counts_read, fields, list_start, count_list, list, arguments_fit, sound, loop_reader, certificate_reader}
 use Rattle.record.proofs.SoundRecords.{Sound, sound_says}

@@ -1,7 +1,7 @@
 -- The ways through the first four tests of the order for a record, L against the bytes: what a check answers at each return, and what its answer
 -- says of the record.
 use Rattle.std.specs.Prelude.{Result, Ok, Err}
-use mathlib.Core.Path.{◌≡◌, refl, sym, ap, ◌∙◌}
+use mathlib.Core.Path.{◌≡◌, refl, ◌∙◌}
 use Prim.Native.Nat.{ℕ, ◌+◌, ◌≤◌, ◌<◌}
 use mathlib.Core.List.{List, []}
 use native.Mathlib.Omega.{arith}

@@ -1,5 +1,4 @@
 -- The parts that the orders of kinds 5 to 8 share: L against the bytes, and what a test of fields says by where they have their fault.
-use Rattle.std.specs.Prelude.{Ok, Err}
 use mathlib.Core.Path.{◌≡◌, refl, ◌∙◌}
 use Prim.Native.Nat.{ℕ, ◌+◌, ◌≤◌}
 use mathlib.Core.List.{List, [], ◌∷◌, ◌++◌}
@@ -9,7 +8,7 @@ use lib.ListN.{length}
 use borrow.Author.Tests.{le-leb, lt-ltb, le-ltb}
 use Rattle.refusal.specs.declared.Fault.{Fault}
 use Rattle.refusal.specs.Faults.{result_of}
-use Rattle.refusal.specs.Tests.{Told, refused, Test, first}
+use Rattle.refusal.specs.Tests.{Told, Test, first}
 use Rattle.refusal.proofs.FaultLaws.{told_refused, refuses}
 use Rattle.refusal.proofs.TestLaws.{passed, failed, passes_done, first_then, first_told}
 use Rattle.record.specs.Fields.{Field, widths}

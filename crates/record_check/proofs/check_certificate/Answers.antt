@@ -1,5 +1,5 @@
 -- `record_check::check_certificate` meets its contract: the frame, the kind, the arguments, and then the tests of the kind's body.
-use Rattle.std.proofs.Common.{◌≡◌, ◌∙◌, refl, sym, ap, arith, rules, ℕ, Bool, true, Err, []}
+use Rattle.std.proofs.Common.{◌≡◌, ◌∙◌, sym, ap, arith, rules, ℕ, Bool, true, Err, []}
 use mathlib.Core.Bool.{false≢true}
 use Rattle.refusal.specs.Faults.{result_of}
 use Rattle.record.specs.declared.Wanted.{Wanted}

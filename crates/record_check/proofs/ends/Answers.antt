@@ -1,5 +1,4 @@
 -- `record_check::ends` meets its contract.
-use Rattle.std.proofs.Common.{◌∙◌}
 use borrow.Author.Tests.{lt-ltb, le-ltb}
 use Rattle.refusal.specs.Faults.{result_of}
 use Rattle.record_check.specs.Checks.{ended}

@@ -1,7 +1,6 @@
 -- `record_paths_check::check_paths` meets its contract.
 use Rattle.std.proofs.Common.{◌≡◌, ◌∙◌, sym, true, false, rules, Err, pos}
 use lib.ListN.{drop}
-use Rattle.endian.specs.Numbers.{little_at}
 use Rattle.refusal.proofs.FaultLaws.{refuses}
 use Rattle.record.specs.Ranges.{variables, within}
 use Rattle.record_check.specs.Checks.{Framed}

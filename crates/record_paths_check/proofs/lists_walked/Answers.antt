@@ -1,5 +1,5 @@
 -- `record_paths_check::lists_walked` meets its contract.
-use Rattle.std.proofs.Common.{◌≡◌, ◌+◌, ◌*◌, ◌≤◌, ◌<◌, ◌∙◌, sym, false, true, arith}
+use Rattle.std.proofs.Common.{◌≡◌, ◌+◌, ◌*◌, ◌≤◌, ◌<◌, ◌∙◌, false, true, arith}
 use native.Mathlib.Nat.{mul-le-mul, mul-le-mul_right}
 use borrow.Author.Tests.{lt-ltb, le-ltb, ltb-true}
 use Rattle.record_paths.specs.PathCertificates.{component_in}

@@ -1,5 +1,5 @@
 -- `record_paths_check::rows_walked` meets its contract.
-use Rattle.std.proofs.Common.{◌≡◌, ◌*◌, ◌≤◌, ◌∙◌, sym, false, true, arith}
+use Rattle.std.proofs.Common.{◌≡◌, ◌∙◌, sym, false, true, arith}
 use native.Mathlib.Nat.{mul-le-mul_right}
 use Rattle.record.proofs.CountLimits.{rows_most}
 use Rattle.record_paths.specs.PathLoops.{rows_in}
