@@ -9,24 +9,20 @@ use lib.IntN.{pos}
 use lib.ListN.{length, drop}
 use borrow.Author.Tests.{le-leb, lt-leb, eq-eqb, ne_eqb}
 use Rattle.endian.specs.Numbers.{little_at}
-use Rattle.refusal.specs.Faults.{fault_of}
 use Rattle.refusal.specs.Tests.{refused, first}
-use Rattle.refusal.proofs.PlaceLaws.{before_within}
-use Rattle.refusal.proofs.TestLaws.{passed, failed}
+use Rattle.refusal.proofs.PlaceLaws.{all-or-first, fails_there}
+use Rattle.refusal.proofs.TestLaws.{either, passed, failed}
 use Rattle.record.specs.Fields.{width, widths}
 use Rattle.record.specs.Ranges.{variables, rows, within}
 use Rattle.record.specs.Readers.{stated_length, kind_number}
-use Rattle.record.proofs.CountLimits.{arguments_most}
 use Rattle.record_fields.specs.Runs.{fault}
 use Rattle.record_fields.proofs.FirstFaults.{one_fits, one_out, all_fit, not_all_fit}
 use Rattle.record_check.specs.Checks.{Framed}
 use Rattle.record_paths.specs.PathFields.{bytes_alone, is_kind, holds_counts, is_long, fields_fit}
-use Rattle.record_paths_check.specs.PathChecks.{ended}
 use Rattle.record_paths_check.proofs.FieldFaults.{count_fits}
 use Rattle.record_paths_check.proofs.OrderWays.{past_frame, ends_so}
 use Rattle.record_short.specs.ShortRecords.{triples_in, row_rises, has_weight, before_bad, triple_count, triples_fields, short_length, sound_short}
-use Rattle.record_short_check.specs.declared.Walked.{Walked}
-use Rattle.record_short_check.specs.ShortChecks.{before, walked, TriplesCounted}
+use Rattle.record_short_check.specs.ShortChecks.{passes, triple_told, values_told, triples_told}
 use Rattle.record_short_check.proofs.TripleWalks.{widths_triples}
 
 module _ (n m : ℕ) (bytes : List ℕ) where
@@ -91,64 +87,41 @@ module _ (n m : ℕ) (bytes : List ℕ) where
             unfolding sound_short is_long stated_length short_length bytes_alone
             bad_length h = of_count ∙ failed _ _ _ _ (bytes_alone bytes) (ne_eqb (little_at 4 bytes 0) (4 + 6 * triples_in bytes) (λ e. h (omega (arith, e, f.whole))))
 
-            pub of_length : length bytes ≡ 8 + 6 * triples_in bytes → From 9
+            of_length : length bytes ≡ 8 + 6 * triples_in bytes → From 9
             unfolding sound_short is_long stated_length short_length bytes_alone
             of_length h =
                 let same : little_at 4 bytes 0 ≡ 4 + 6 * triples_in bytes = omega (arith, f.whole) in
                 of_count ∙ passed _ _ _ _ (bytes_alone bytes) (eq-eqb _ _ same)
 
--- ---- once the count and the length are right
+            -- once the count and the length are right
+            module _ (long : length bytes ≡ 8 + 6 * triples_in bytes) where
+              -- the first triple that fails
+              bad_triple : before_bad m bytes < triples_in bytes → From 9 → first (sound_short n m) (bytes_alone bytes) ≡ triple_told m bytes (before_bad m bytes)
+              unfolding sound_short bytes_alone triple_told before_bad
+              bad_triple below past =
+                  let bad = before_bad m bytes in
+                  let not_all : eqb bad (triples_in bytes) ≡ false = ne_eqb bad (triples_in bytes) (λ e. omega (arith, e)) in
+                  let out = fails_there (triples_in bytes) (passes m bytes) below in
+                  either (row_rises m bytes bad)
+                  (λ rises.
+                  let weightless : has_weight bytes bad ≡ false = rw rises at out in
+                  past ∙ passed _ _ _ _ (bytes_alone bytes) (rw (not_all, rises)) ∙ failed _ _ _ _ (bytes_alone bytes) not_all
+                  ∙ sym (passed _ _ _ _ bad rises ∙ failed _ _ _ _ bad weightless))
+                  (λ stays. past ∙ failed _ _ _ _ (bytes_alone bytes) (rw (not_all, stays)) ∙ sym (failed _ _ _ _ bad stays))
 
-module _ (n m : ℕ) (bytes : List ℕ) (count : ℕ) (d : TriplesCounted n m bytes count) where
-  pub few_rows : m ≤ 64
-  few_rows = (arguments_most n m d.arguments).1
+              -- all pass
+              all_pass : before_bad m bytes ≡ triples_in bytes → From 9 → first (sound_short n m) (bytes_alone bytes) ≡ values_told bytes (triples_in bytes)
+              unfolding sound_short bytes_alone values_told
+              all_pass all past =
+                  let whole : eqb (before_bad m bytes) (triples_in bytes) ≡ true = eq-eqb _ _ all in
+                  rw (← long)
+                  (ends_so bytes (λ r. 8) (λ r. triples_fields (triples_in r.bytes))
+                  (past ∙ passed _ _ _ _ (bytes_alone bytes) (rw whole) ∙ passed _ _ _ _ (bytes_alone bytes) whole)
+                  (rw widths_triples (sym long)) (fault (triples_fields (triples_in bytes)) bytes 8) refl)
 
-  past_length : From n m bytes 9
-  past_length =
-      of_length n m bytes d.frame d.numbered d.arguments (omega (arith, d.long)) (rw d.read at d.count_fits) (rw d.read at d.long)
-
-  -- a walk along the triples
-  module _ (v : Walked) (is : v ≡ walked m bytes count) where
-    stopped : v.triples ≡ before_bad m bytes
-    unfolding walked before before_bad
-    stopped = ap (λ (x : Walked). x.triples) is ∙ rw d.read
-
-    within_count : v.triples ≤ count
-    unfolding walked before
-    within_count = omega (arith, ap (λ (x : Walked). x.triples) is, before_within count (λ i. row_rises m bytes i && has_weight bytes i))
-
-    -- that stopped before the end
-    module _ (early : v.triples < count) where
-      not_all : eqb (before_bad m bytes) (triples_in bytes) ≡ false
-      not_all = ne_eqb (before_bad m bytes) (triples_in bytes) (λ e. omega (arith, e, stopped, d.read))
-
-      pub bad_row : row_rises m bytes v.triples ≡ false → Tells n m bytes 15 (8 + 6 * v.triples)
-      unfolding sound_short bytes_alone
-      bad_row h = past_length ∙ failed _ _ _ _ (bytes_alone bytes) (rw (not_all, ← stopped) h) ∙ ap (λ k. refused 15 (8 + 6 * k)) (sym stopped)
-
-      pub no_weight : row_rises m bytes v.triples ≡ true → Tells n m bytes 16 (8 + 6 * v.triples)
-      unfolding sound_short bytes_alone
-      no_weight h =
-          past_length ∙ passed _ _ _ _ (bytes_alone bytes) (rw (not_all, ← stopped) h) ∙ failed _ _ _ _ (bytes_alone bytes) not_all
-          ∙ ap (λ k. refused 16 (8 + 6 * k)) (sym stopped)
-
-    -- that came to the end
-    module _ (end : count ≤ v.triples) where
-      all : before_bad m bytes ≡ triples_in bytes
-      all = omega (arith, stopped, within_count, d.read)
-
-      whole : eqb (before_bad m bytes) (triples_in bytes) ≡ true
-      whole = eq-eqb _ _ all
-
-      kept : v.fault ≡ fault (triples_fields (triples_in bytes)) bytes 8
-      unfolding walked
-      kept =
-          let came : before m bytes count ≡ triples_in bytes = omega (arith, ap (λ (x : Walked). x.triples) is, stopped, all) in
-          ap (λ (x : Walked). x.fault) is ∙ ap (λ k. fault (triples_fields k) bytes 8) came
-
-      pub values_told : ended v.fault (length bytes) ≡ fault_of (first (sound_short n m) (bytes_alone bytes))
-      unfolding sound_short bytes_alone
-      values_told =
-          ends_so bytes (λ r. 8) (λ r. triples_fields (triples_in r.bytes))
-          (past_length ∙ passed _ _ _ _ (bytes_alone bytes) (rw whole) ∙ passed _ _ _ _ (bytes_alone bytes) whole)
-          (rw (widths_triples, ← d.read) (sym d.long)) v.fault kept
+              pub triples_so : first (sound_short n m) (bytes_alone bytes) ≡ triples_told m bytes (triples_in bytes)
+              unfolding triples_told before_bad
+              triples_so =
+                  all-or-first (triples_in bytes) (passes m bytes)
+                  (λ all. rw (eq-eqb (before_bad m bytes) (triples_in bytes) all) (all_pass all (of_length long)))
+                  (λ below. rw (ne_eqb (before_bad m bytes) (triples_in bytes) (λ e. omega arith)) (bad_triple below (of_length long)))

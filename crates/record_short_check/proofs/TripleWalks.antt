@@ -1,33 +1,55 @@
--- A walk along the triples that tests them and keeps where the first value out of range stands.
+-- A walk along the triples that tests them and keeps what is told of their values.
+use Rattle.std.specs.Prelude.{Result, Ok, Err}
+use Rattle.std.specs.Result.{result_and}
 use mathlib.Core.Path.{◌≡◌, refl, sym, ap, ◌∙◌}
 use Prim.Native.Nat.{ℕ, zero, suc, ◌+◌, ◌*◌, ◌≤◌, ◌<◌}
-use mathlib.Core.Bool.{Bool, true, false, ◌&&◌}
+use mathlib.Core.Bool.{true}
 use mathlib.Core.List.{List, [], ◌∷◌, ◌++◌}
 use native.Mathlib.Decide.{dec_lt}
 use native.Mathlib.Numerals.{add-one}
 use native.Mathlib.Omega.{arith}
 use lib.ListN.{replicate}
-use borrow.Author.Tests.{lt-ltb, le-ltb}
+use borrow.Author.Tests.{lt-ltb, le-ltb, eq-eqb, ne_eqb}
 use Rattle.endian.specs.Numbers.{little_at}
-use Rattle.refusal.specs.Places.{Throughout, before_failing}
+use Rattle.refusal.specs.declared.Fault.{Fault}
+use Rattle.refusal.specs.Faults.{result_of}
+use Rattle.refusal.specs.Places.{Throughout}
+use Rattle.refusal.specs.Tests.{Told, done, refused, ◌then◌}
+use Rattle.refusal.proofs.FaultLaws.{told_done, told_refused, gives}
 use Rattle.refusal.proofs.PlaceLaws.{before_all, before_first}
-use Rattle.refusal.proofs.TestLaws.{true_both}
-use Rattle.record.specs.Fields.{width, number, widths}
+use Rattle.refusal.proofs.TestLaws.{never, either, true_both, both_true, done_passes, passes_done}
+use Rattle.record.specs.Fields.{width, number, Field, widths}
 use Rattle.record.specs.Layouts.{multiplier}
+use Rattle.record_check.specs.Checks.{ended}
 use Rattle.record_fields.specs.Runs.{field_number_at, fits, fault}
 use Rattle.record_fields.proofs.FirstFaults.{fault_none, fault_next, stops, goes_on}
 use Rattle.record_short.specs.ShortRecords.{row_in, row_rises, has_weight, row_number, triples_fields}
 use Rattle.record_short.proofs.ShortSound.{rises_so, small_within}
-use Rattle.record_short_check.specs.ShortChecks.{triple_fields, with_triple, before, walked}
+use Rattle.record_short_check.specs.ShortChecks.{passes, triple_told, values_told, triples_told}
 
--- ---- where the first value out of range stands
+-- ---- one triple
+
+module _ (m : ℕ) (bytes : List ℕ) (i : ℕ) where
+  triple_done : triple_told m bytes i ≡ done → (row_rises m bytes i ≡ true) × (has_weight bytes i ≡ true)
+  unfolding triple_told
+  triple_done told = let h = done_passes _ i told in (h.0, h.1.0)
+
+  triple_passes : passes m bytes i ≡ true → triple_told m bytes i ≡ done
+  unfolding triple_told
+  triple_passes h = let both = both_true (row_rises m bytes i) (has_weight bytes i) h in passes_done _ i (both.0, (both.1, tt))
+
+-- ---- the values
+
+-- the fields of one triple
+triple_fields : List Field
+triple_fields = row_number ∷ multiplier ∷ multiplier ∷ []
 
 -- a row is never out of range
-pub past_row : (bytes : List ℕ) (at : ℕ) → little_at 2 bytes at ≤ 65535 → fault (replicate 2 multiplier) bytes (at + 2) ≡ fault triple_fields bytes at
+past_row : (bytes : List ℕ) (at : ℕ) → little_at 2 bytes at ≤ 65535 → fault (replicate 2 multiplier) bytes (at + 2) ≡ fault triple_fields bytes at
 unfolding triple_fields row_number fits field_number_at number width little_at
 past_row bytes at low = sym (fault_next bytes row_number (multiplier ∷ multiplier ∷ []) at (small_within 65535 _ low))
 
-pub low_row : (m : ℕ) (bytes : List ℕ) (i : ℕ) → m ≤ 64 → row_rises m bytes i ≡ true → little_at 2 bytes (8 + 6 * i) ≤ 65535
+low_row : (m : ℕ) (bytes : List ℕ) (i : ℕ) → m ≤ 64 → row_rises m bytes i ≡ true → little_at 2 bytes (8 + 6 * i) ≤ 65535
 unfolding row_in
 low_row m bytes i few h = omega (arith, (rises_so m bytes i h).0)
 
@@ -41,52 +63,71 @@ unfolding widths width triples_fields row_number multiplier
 widths_triples zero = omega arith
 widths_triples (suc count) = omega (arith, widths_triples count)
 
-fault_more : (bytes : List ℕ) (count : ℕ) → with_triple bytes (fault (triples_fields count) bytes 8) (8 + 6 * count) ≡ fault (triples_fields (count + 1)) bytes 8
-unfolding with_triple
-fault_more bytes count =
-    let so_far = fault (triples_fields count) bytes 8 in
-    let end : 8 + 6 * count ≡ 8 + widths (triples_fields count) = rw widths_triples in
-    rw (add-one count, triples_more count)
-    (elim (dec_lt so_far (8 + 6 * count)) [
-      | yes early ↦ rw (lt-ltb _ _ early) (stops bytes (triples_fields count) triple_fields 8 (8 + 6 * count) so_far end refl early)
+values_none : (bytes : List ℕ) → values_told bytes 0 ≡ done
+unfolding values_told ended triples_fields
+values_none bytes = rw (fault_none bytes 8)
+
+-- one triple more
+values_more : (bytes : List ℕ) (i : ℕ) → (values_told bytes i then ended (fault triple_fields bytes (8 + 6 * i)) (14 + 6 * i)) ≡ values_told bytes (i + 1)
+unfolding values_told ended ◌then◌
+values_more bytes i =
+    let so_far = fault (triples_fields i) bytes 8 in
+    let end : 8 + 6 * i ≡ 8 + widths (triples_fields i) = rw widths_triples in
+    let next : 8 + 6 * suc i ≡ 14 + 6 * i = omega arith in
+    rw (add-one i, triples_more i, next)
+    (elim (dec_lt so_far (8 + 6 * i)) [
+      | yes early ↦
+          let before : so_far < 14 + 6 * i = omega arith in
+          rw (← stops bytes (triples_fields i) triple_fields 8 (8 + 6 * i) so_far end refl early, lt-ltb _ _ early, lt-ltb _ _ before)
       | no late ↦
-          let past : 8 + 6 * count ≤ so_far = omega arith in
-          rw (le-ltb _ _ past) (goes_on bytes (triples_fields count) triple_fields 8 (8 + 6 * count) so_far end refl past)
+          let past : 8 + 6 * i ≤ so_far = omega arith in
+          rw (← goes_on bytes (triples_fields i) triple_fields 8 (8 + 6 * i) so_far end refl past, le-ltb _ _ past)
     ])
+
+-- an answer that gives nothing
+abbrev pub telling : Result (Unit {0}) Fault → Result (Unit {0}) Fault
+telling r = r
+
+-- one after another
+both_told : (s t : Told) → telling (result_and (telling (result_of s tt)) (telling (result_of t tt))) ≡ result_of (s then t) tt
+unfolding result_of ◌then◌
+both_told done t = refl
+both_told (refused k p) t = refl
 
 -- ---- the walk
 
 module _ (m : ℕ) (bytes : List ℕ) (count : ℕ) where
-  -- triple k passes
-  abbrev pub passing : ℕ → Bool
-  passing k = row_rises m bytes k && has_weight bytes k
-
-  pub record SoFar (i at : ℕ) : Type 0 where
+  pub record SoFar (i : ℕ) (values : Result (Unit {0}) Fault) : Type 0 where
     pub inside : i ≤ count
-    pub passed : Throughout i (λ k. passing k ≡ true)
-    pub kept : at ≡ fault (triples_fields i) bytes 8
+    pub passed : Throughout i (λ k. passes m bytes k ≡ true)
+    pub kept : values ≡ result_of (values_told bytes i) tt
 
-  pub walk_start : SoFar 0 8
-  unfolding triples_fields
-  walk_start = record { inside = omega arith; passed = λ k below. absurd (omega arith); kept = sym (fault_none bytes 8) }
+  pub walk_start : SoFar 0 (Ok tt)
+  walk_start = record { inside = omega arith; passed = λ k below. absurd (omega arith); kept = gives tt (values_none bytes) }
 
-  module _ (i at : ℕ) (w : SoFar i at) where
-    pub walk_more : i < count → row_rises m bytes i ≡ true → has_weight bytes i ≡ true → SoFar (i + 1) (with_triple bytes at (8 + 6 * i))
-    walk_more below rises weighs =
+  module _ (i : ℕ) (values : Result (Unit {0}) Fault) (w : SoFar i values) where
+    pub walk_more : m ≤ 64 → i < count → telling (Ok tt) ≡ result_of (triple_told m bytes i) tt → (at : ℕ)
+        → at ≡ fault (replicate 2 multiplier) bytes (10 + 6 * i) → SoFar (i + 1) (result_and values (result_of (ended at (14 + 6 * i)) tt))
+    walk_more few below right at out =
+        let here = triple_done m bytes i (told_done (triple_told m bytes i) tt tt right) in
+        let start : 10 + 6 * i ≡ 8 + 6 * i + 2 = omega arith in
+        let fields : at ≡ fault triple_fields bytes (8 + 6 * i) = out ∙ rw start (past_row bytes (8 + 6 * i) (low_row m bytes i few here.0)) in
         record {
           inside = omega arith;
-          passed = λ k early. elim (dec_lt k i) [ yes h ↦ w.passed k h | no h ↦ let same : k ≡ i = omega arith in rw same (true_both _ _ rises weighs) ];
-          kept = rw w.kept (fault_more bytes i);
+          passed = λ k early. elim (dec_lt k i) [ yes h ↦ w.passed k h | no h ↦ let same : k ≡ i = omega arith in rw same (true_both _ _ here.0 here.1) ];
+          kept = rw (w.kept, fields) (both_told _ _ ∙ ap (λ t. result_of t tt) (values_more bytes i));
         }
 
-    answers : before_failing count passing ≡ i → record { triples = i; fault = at } ≡ walked m bytes count
-    unfolding walked before
-    answers stop = rw (stop, w.kept)
+    pub walk_stops : i < count → (f : Fault) → telling (Err f) ≡ result_of (triple_told m bytes i) tt → telling (Err f) ≡ result_of (triples_told m bytes count) tt
+    unfolding triples_told
+    walk_stops below f told =
+        either (passes m bytes i)
+        (λ e. absurd (never (sym (told_refused (triple_told m bytes i) tt f told) ∙ triple_passes m bytes i e)))
+        (λ e. rw (before_first count (passes m bytes) i below e w.passed, ne_eqb i count (λ e. omega arith)) told)
 
-    pub walk_stops : i < count → passing i ≡ false → record { triples = i; fault = at } ≡ walked m bytes count
-    walk_stops below here = answers (before_first count passing i below here w.passed)
-
-    pub walk_ends : count ≤ i → record { triples = count; fault = at } ≡ walked m bytes count
+    pub walk_ends : count ≤ i → values ≡ result_of (triples_told m bytes count) tt
+    unfolding triples_told
     walk_ends last =
         let all : i ≡ count = omega (arith, w.inside) in
-        ap (λ k. record { triples = k; fault = at }) (sym all) ∙ answers (before_all count passing (rw all at w.passed) ∙ sym all)
+        let every = before_all count (passes m bytes) (rw all at w.passed) in
+        rw (every, eq-eqb count count refl) (rw all at w.kept)

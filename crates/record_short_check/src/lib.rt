@@ -1,16 +1,15 @@
 // Whether bytes are a sound record of kind 7, a short ranking (02, Q-6): the tests of "Order for a record". A record is visited once and
-// never copied: one walk tests the triples and keeps where the first multiplier out of range stands.
+// never copied: one walk tests the triples and keeps what the first multiplier out of range tells.
 #![tactic(auto)]
 
 ghost use Rattle.std.specs.Prelude.{◌+◌, ◌*◌, ◌≤◌, ◌≡◌, length};
-ghost use Rattle.endian.specs.Numbers.{little_at};
-ghost use Rattle.refusal.specs.Faults.{fault_of};
+ghost use Rattle.refusal.specs.Faults.{result_of};
 ghost use Rattle.refusal.specs.Tests.{first};
 ghost use Rattle.record_paths.specs.PathFields.{bytes_alone};
 ghost use Rattle.record_short.specs.ShortRecords.{row_rises, has_weight, sound_short};
-ghost use Rattle.record_short_check.specs.ShortChecks.{with_triple, walked, TriplesCounted};
+ghost use Rattle.record_short_check.specs.ShortChecks.{triple_told, triples_told};
 
-use refusal::Fault;
+use refusal::{Fault, refused};
 
 // ---- one triple
 
@@ -21,13 +20,7 @@ fn row_fits(bytes: &[u8], m: usize, i: usize) -> bool
 {
     let at = 8 + 6 * i;
     let row = endian::u16_at(bytes, at);
-    if m <= row {
-        return false;
-    }
-    if i == 0 {
-        return true;
-    }
-    endian::u16_at(bytes, at - 6) < row
+    row < m && (i == 0 || endian::u16_at(bytes, at - 6) < row)
 }
 
 // Y and Z are not both zero.
@@ -36,99 +29,60 @@ fn weighs(bytes: &[u8], i: usize) -> bool
     ensures { result ≡ has_weight bytes.now i }
 {
     let at = 8 + 6 * i;
-    if endian::u16_at(bytes, at + 2) != 0 {
-        return true;
-    }
-    endian::u16_at(bytes, at + 4) != 0
+    endian::u16_at(bytes, at + 2) != 0 || endian::u16_at(bytes, at + 4) != 0
 }
 
-// Where the first multiplier out of range stands once a triple comes at the end of some: as before, if it stands before the triple.
-fn fault_with(bytes: &[u8], fault: usize, at: usize) -> usize
-    requires { (at + 6 ≤ length bytes.now) × (little_at 2 bytes.now at ≤ 65535) }
-    ensures { result ≡ with_triple bytes.now fault at }
+// What is told at its place.
+fn triple(bytes: &[u8], m: usize, i: usize) -> Result<(), Fault>
+    requires { 8 + 6 * i + 6 ≤ length bytes.now }
+    ensures { result ≡ result_of (triple_told m bytes.now i) tt }
 {
-    if fault < at {
-        fault
-    } else {
-        record_faults::multipliers_fault(bytes, at + 2, 2)
+    if !row_fits(bytes, m, i) {
+        return refused(15, 8 + 6 * i);
     }
+    if !weighs(bytes, i) {
+        return refused(16, 8 + 6 * i);
+    }
+    Ok(())
 }
 
 // ---- all triples
 
-// How many triples come before the first that fails, and where the first multiplier out of range among these stands.
-#[derive(Clone, Copy)]
-struct Walked {
-    triples: usize,
-    fault: usize,
-}
-
-fn triples_walked(bytes: &[u8], m: usize, count: usize) -> Walked
+// The first that fails is told; where none does, the first multiplier out of range.
+fn triples(bytes: &[u8], m: usize, count: usize) -> Result<(), Fault>
     requires { (8 + 6 * count ≤ length bytes.now) × (m ≤ 64) }
-    ensures { result ≡ walked m bytes.now count }
+    ensures { result ≡ result_of (triples_told m bytes.now count) tt }
 {
-    let mut fault = 8;
+    let mut values = Ok(());
     for i in 0..count {
-        if !row_fits(bytes, m, i) {
-            return Walked {
-                triples: i,
-                fault: fault,
-            };
-        }
-        if !weighs(bytes, i) {
-            return Walked {
-                triples: i,
-                fault: fault,
-            };
-        }
-        fault = fault_with(bytes, fault, 8 + 6 * i);
+        triple(bytes, m, i)?;
+        let end = 14 + 6 * i;
+        let at = record_faults::multipliers_fault(bytes, end - 4, 2);
+        values = values.and(record_check::ends(at, end));
     }
-    Walked {
-        triples: count,
-        fault: fault,
-    }
-}
-
-// The triples and their multipliers, once the count and the length are right.
-fn triples_told(bytes: &[u8], n: usize, m: usize, count: usize) -> Fault
-    requires { TriplesCounted n m bytes.now count }
-    ensures { result ≡ fault_of (first (sound_short n m) (bytes_alone bytes.now)) }
-{
-    let walk = triples_walked(bytes, m, count);
-    if count <= walk.triples {
-        return record_paths_check::ends(walk.fault, bytes.len());
-    }
-    let at = 8 + 6 * walk.triples;
-    if row_fits(bytes, m, walk.triples) {
-        record_paths_check::told(16, at)
-    } else {
-        record_paths_check::told(15, at)
-    }
+    values
 }
 
 // Whether bytes are a sound record of kind 7 for a loop over n variables with m rows.
-pub fn check_short(bytes: &[u8], n: usize, m: usize) -> Fault
-    ensures { result ≡ fault_of (first (sound_short n m) (bytes_alone bytes.now)) }
+pub fn check_short(bytes: &[u8], n: usize, m: usize) -> Result<(), Fault>
+    ensures { result ≡ result_of (first (sound_short n m) (bytes_alone bytes.now)) tt }
 {
-    let head = record_check::frame(bytes);
-    if head.number != 0 {
-        return record_paths_check::told(head.number, head.place);
-    }
+    record_check::frame(bytes)?;
     if endian::u16_at(bytes, 4) != 7 {
-        return record_paths_check::told(4, 4);
+        return refused(4, 4);
     }
     if !record_faults::arguments_fit(n, m) {
-        return record_paths_check::told(5, 0);
+        return refused(5, 0);
     }
     if bytes.len() < 8 {
-        return record_paths_check::told(3, 0);
+        return refused(3, 0);
     }
     let count = endian::u16_at(bytes, 6);
     if !record_faults::rows_fit(count) {
-        return record_paths_check::told(5, 6);
+        return refused(5, 6);
     }
     if bytes.len() != 8 + 6 * count {
-        return record_paths_check::told(3, 0);
+        return refused(3, 0);
     }
-    triples_told(bytes, n, m, count)
+    triples(bytes, m, count)
 }
