@@ -1,4 +1,4 @@
--- Four rows more, and one: how large totals become, and that what is known after i rows is known after those.
+-- Four rows more: how large totals become, and that what is known after i rows is known after those.
 use Prim.Native.Nat.{ℕ, ◌+◌, ◌*◌, ◌≤◌, ◌<◌}
 use mathlib.Core.List.{List}
 use mathlib.Core.Path.{◌≡◌, refl}
@@ -11,13 +11,12 @@ use Rattle.endian.specs.Numbers.{little_at}
 use Rattle.whole.specs.Sums.{total}
 use Rattle.whole.proofs.Size.{abs_add, abs_product}
 use Rattle.whole.proofs.Solve.{v, ◌⊕◌, ◌⊗◌, solve}
-use Rattle.judge_sums.specs.Places.{entry_at, right_at, row_place, entry_term, lift_term, Lifts, Grown, RowAdded, AllModest, AllNone, Sided, SumsOf, BesideOf, most_entry, most_right}
-use Rattle.judge_sums.specs.Running.{Modest, Adds, SumOf}
-use Rattle.judge_sums.proofs.ColumnLaws.{beside_none, beside_more}
-use Rattle.judge_sums.proofs.LiftLaws.{grown, row_weightless, sums_none, sums_more, sums_modest, lifts_small, entry_more}
-use Rattle.judge_sums.proofs.RunningLaws.{adds_nothing}
+use Rattle.judge_sums.specs.Places.{entry_at, row_place, entry_term, lift_term, Lifts, Grown, AllModest, Sided, SumsOf, BesideOf, TotalsOf, most_entry, most_right}
+use Rattle.judge_sums.specs.Running.{CanGrow, Modest, Adds, SumOf}
+use Rattle.judge_sums.proofs.ColumnLaws.{beside_more}
+use Rattle.judge_sums.proofs.LiftLaws.{grown, sums_modest, lifts_small, entry_more}
 use Rattle.judge_fours.specs.declared.Four.{Four}
-use Rattle.judge_fours.specs.Fours.{FourAt, FourAdded, SidedFour, FourFit, SoFar}
+use Rattle.judge_fours.specs.Fours.{FourAt, FourAdded, SidedFour, FourFit}
 
 -- ---- sizes
 
@@ -29,6 +28,11 @@ lifts_size {multiplier} {entry} {before} few h =
     = solve (v before ⊕ v m ⊗ (v entry ⊕ v (pos 32768))) ((v before ⊕ v m ⊗ v entry) ⊕ v m ⊗ v (pos 32768)) (omega arith) in
     rw (h.is, apart)
     (omega (arith, abs_add (before +ℤ m *ℤ entry) (m *ℤ pos 32768), abs_add before (m *ℤ entry), h.small, abs_product m (pos 32768) {a = 65535} {b = 32768} (omega arith) (omega arith)))
+
+-- the same of one that was passed on
+pub passed_size : (before : ℤ) {multiplier : ℕ} {entry after : ℤ} → CanGrow before → multiplier < 65536 → Lifts multiplier entry (to_z w64 (of_z w64 before)) after
+    → nat_abs after ≤ nat_abs before + 2 * most_entry
+passed_size before grows few h = lifts_size few (rw (grown before grows) at h)
 
 -- the total that the next entries are added to, as it is and as it is passed on
 pub next_modest : {grows : ℕ → ℤ → ℤ → Type 0} {before mid : List ℤ} (k width : ℕ) → Grown grows k before mid → AllModest width before → k < width
@@ -49,10 +53,7 @@ sided_size h = (adds_size h.lift_adds, adds_size h.right_adds)
 
 module _ (multipliers : List ℕ) (place : ℕ) (rows : List ℕ) (start n : ℕ) where
   abbrev Known : ℕ → List ℤ → ℤ → ℤ → Type 0
-  Known = SoFar multipliers place rows start n
-
-  pub known_none : (sums : List ℤ) {lift right : ℤ} → AllNone (2 * n) sums → (lift ≡ pos 0) × (right ≡ pos 0) → Known 0 sums lift right
-  known_none sums zeros none = record { columns = sums_none multipliers place rows start n sums zeros; beside = beside_none multipliers place rows start n none }
+  Known = TotalsOf multipliers place rows start n
 
   -- the totals are small enough for four rows more
   pub known_fits : (i count : ℕ) {sums : List ℤ} {lift right : ℤ} → Known i sums lift right → i + 4 ≤ count → count < 16384
@@ -62,23 +63,6 @@ module _ (multipliers : List ℕ) (place : ℕ) (rows : List ℕ) (start n : ℕ
     omega (arith, h.beside.lift_sum.small),
     omega (arith, h.beside.right_sum.small),
   )
-
-  -- one row more
-  pub known_one : (i multiplier at : ℕ) {sums sums' : List ℤ} {lift right lift' right' : ℤ} → Known i sums lift right
-      → multiplier ≡ little_at 2 multipliers (place + 2 * i) → multiplier < 65536 → at ≡ row_place start n i
-      → RowAdded multiplier rows at (2 * n) sums sums' → Sided multiplier rows (at + 4 * n) lift right lift' right' → Known (i + 1) sums' lift' right'
-  known_one i multiplier at {sums} {sums'} h read few here row side =
-      record {
-        columns = sums_more multipliers place rows start n i multiplier at sums sums' h.columns read few here row;
-        beside = beside_more multipliers place rows start n i multiplier at h.beside read here side;
-      }
-
-  -- one without weight
-  pub known_weightless : (i multiplier at : ℕ) (sums : List ℤ) {lift right : ℤ} → Known i sums lift right
-      → multiplier ≡ little_at 2 multipliers (place + 2 * i) → multiplier ≡ 0 → at ≡ row_place start n i → Known (i + 1) sums lift right
-  known_weightless i multiplier at sums {lift} {right} h read none here =
-      known_one i multiplier at h read (omega arith) here (row_weightless multiplier rows at sums (2 * n) none)
-      (record { lift_adds = adds_nothing most_entry none (pos 32768) lift; right_adds = adds_nothing most_right none (right_at rows (at + 4 * n)) right })
 
   -- one row of the four: for one column's total, for the lifts' and for what stands beside, with multiplier and row known by their places
   entry_next : (i k : ℕ) {multiplier here there : ℕ} {before after : ℤ}

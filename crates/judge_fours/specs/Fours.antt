@@ -1,9 +1,8 @@
--- Four rows more for the totals under a list of multipliers, term by term, and what is known of them after some rows. The rows, multipliers and
--- totals are those of `judge_sums`.
+-- Four rows more for the totals under a list of multipliers, term by term. The rows, multipliers and totals are those of `judge_sums`.
 use Rattle.std.specs.Prelude.{ℕ, ◌+◌, ◌*◌, ◌<◌, List, ◌≡◌, ℤ, nat_abs}
 use Rattle.endian.specs.Numbers.{little_at}
 use Rattle.judge_fours.specs.declared.Four.{Four}
-use Rattle.judge_sums.specs.Places.{entry_at, Lifts, Grown, Sided, SumsOf, BesideOf}
+use Rattle.judge_sums.specs.Places.{entry_at, Lifts, Grown, Sided}
 
 -- ---- multipliers
 
@@ -51,8 +50,3 @@ pub record SidedFour (four : Four) (rows : List ℕ) (place stride : ℕ) (lift 
 -- four terms of a size more fit 64 bits
 abbrev pub FourFit : ℕ → ℤ → Type 0
 FourFit most sum = nat_abs sum + 4 * most < 4611686018427387904
-
--- ---- after i rows: the totals under one list of multipliers, and what stands beside them
-pub record SoFar (multipliers : List ℕ) (place : ℕ) (rows : List ℕ) (start n i : ℕ) (sums : List ℤ) (lift right : ℤ) : Type 0 where
-  pub columns : SumsOf multipliers place rows start n i sums
-  pub beside : BesideOf multipliers place rows start n i lift right

@@ -1,2 +1,2 @@
--- four rows more, and what is known after some rows
+-- four rows more
 pub mod Fours

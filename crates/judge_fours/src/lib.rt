@@ -5,9 +5,9 @@
 
 ghost use Rattle.std.specs.Prelude.{◌+◌, ◌*◌, ◌≤◌, ◌<◌, true, ◌≡◌, length, ltb};
 ghost use Rattle.endian.specs.Numbers.{little_at};
-ghost use Rattle.judge_sums.specs.Places.{RowAdded, RestStays, AllGrow, AllModest, AllNone, Sided, SumsOf, RowsIn, MultipliersIn, BesideOf, most_entry, most_right};
-ghost use Rattle.judge_sums.specs.Running.{CanGrow, Modest};
-ghost use Rattle.judge_fours.specs.Fours.{FourAt, FourSmall, LiftsFour, FourAdded, SidedFour, FourFit, SoFar};
+ghost use Rattle.judge_sums.specs.Places.{RestStays, AllModest, AllNone, SumsOf, RowsIn, MultipliersIn, BesideOf, TotalsOf, most_entry, most_right};
+ghost use Rattle.judge_sums.specs.Running.{Modest};
+ghost use Rattle.judge_fours.specs.Fours.{FourAt, FourSmall, LiftsFour, FourAdded, SidedFour, FourFit};
 
 use judge_sums::{Beside, Besides};
 
@@ -89,45 +89,10 @@ fn four_weigh(multipliers: &[u8], y: usize, z: usize, left: usize) -> bool
     requires { (y + 2 * left ≤ length multipliers.now) × (z + 2 * left ≤ length multipliers.now) }
     ensures { result ≡ true → 4 ≤ left }
 {
-    if left < 4 {
-        return false;
-    }
-    if !weighs(multipliers, y + 2, z + 2) {
-        return false;
-    }
-    if !weighs(multipliers, y + 4, z + 4) {
-        return false;
-    }
-    weighs(multipliers, y + 6, z + 6)
-}
-
-// One row more for all totals.
-fn take_one(
-    ys: &mut [i64],
-    zs: &mut [i64],
-    beside: Besides,
-    y: usize,
-    z: usize,
-    rows: &[u8],
-    row: usize,
-    n: usize,
-) -> Besides
-    requires { (2 * n ≤ length ys.old) × (2 * n ≤ length zs.old) × AllGrow (2 * n) ys.old × AllGrow (2 * n) zs.old
-        × CanGrow beside.y.lift × CanGrow beside.y.right × CanGrow beside.z.lift × CanGrow beside.z.right
-        × (y < 65536) × (z < 65536) × (row + (4 * n + 4) ≤ length rows.now) × (n < 16384) }
-    ensures { RowAdded y rows.now row (2 * n) ys.old ys.new
-        × RowAdded z rows.now row (2 * n) zs.old zs.new
-        × Sided y rows.now (row + 4 * n) beside.y.lift beside.y.right result.y.lift result.y.right
-        × Sided z rows.now (row + 4 * n) beside.z.lift beside.z.right result.z.lift result.z.right }
-{
-    judge_sums::add_row(ys, zs, y, z, rows, row, 2 * n);
-    let under_y = beside.y;
-    let under_z = beside.z;
-    let right = row + 4 * n;
-    Besides {
-        y: under_y.visit(y, rows, right),
-        z: under_z.visit(z, rows, right),
-    }
+    4 <= left
+        && weighs(multipliers, y + 2, z + 2)
+        && weighs(multipliers, y + 4, z + 4)
+        && weighs(multipliers, y + 6, z + 6)
 }
 
 // Four rows more.
@@ -151,13 +116,11 @@ fn take_four(
         × SidedFour z rows.now (row + 4 * n) (4 * n + 4) beside.z.lift beside.z.right result.z.lift result.z.right }
 {
     add_four(ys, zs, y, z, rows, row, n);
-    let under_y = beside.y;
-    let under_z = beside.z;
     let right = row + 4 * n;
     let stride = 4 * n + 4;
     Besides {
-        y: beside_four(under_y, y, rows, right, stride),
-        z: beside_four(under_z, z, rows, right, stride),
+        y: beside_four(beside.y, y, rows, right, stride),
+        z: beside_four(beside.z, z, rows, right, stride),
     }
 }
 
@@ -184,12 +147,12 @@ fn take_rows(
 ) -> Taken
     requires { (2 * n ≤ length ys.old) × (2 * n ≤ length zs.old) × RowsIn rows.now start n count
         × MultipliersIn multipliers.now y count × MultipliersIn multipliers.now z count × (i < count)
-        × SoFar multipliers.now y rows.now start n i ys.old beside.y.lift beside.y.right
-        × SoFar multipliers.now z rows.now start n i zs.old beside.z.lift beside.z.right }
+        × TotalsOf multipliers.now y rows.now start n i ys.old beside.y.lift beside.y.right
+        × TotalsOf multipliers.now z rows.now start n i zs.old beside.z.lift beside.z.right }
     ensures { (0 < result.rows) × (i + result.rows ≤ count)
         × RestStays (2 * n) ys.old ys.new × RestStays (2 * n) zs.old zs.new
-        × SoFar multipliers.now y rows.now start n (i + result.rows) ys.new result.beside.y.lift result.beside.y.right
-        × SoFar multipliers.now z rows.now start n (i + result.rows) zs.new result.beside.z.lift result.beside.z.right }
+        × TotalsOf multipliers.now y rows.now start n (i + result.rows) ys.new result.beside.y.lift result.beside.y.right
+        × TotalsOf multipliers.now z rows.now start n (i + result.rows) zs.new result.beside.z.lift result.beside.z.right }
 {
     let row = start + i * (4 * n + 4);
     let at_y = y + 2 * i;
@@ -212,7 +175,7 @@ fn take_rows(
     }
     Taken {
         rows: 1,
-        beside: take_one(ys, zs, beside, under_y, under_z, rows, row, n),
+        beside: judge_sums::take_row(ys, zs, beside, under_y, under_z, rows, row, n),
     }
 }
 
@@ -240,10 +203,7 @@ pub fn add_rows(
     if count < 16 {
         return judge_sums::add_rows(ys, zs, rows, start, n, multipliers, y, z, count);
     }
-    let mut beside = Besides {
-        y: Beside::new(),
-        z: Beside::new(),
-    };
+    let mut beside = Besides::new();
     let mut i = 0;
     while i < count {
         let taken = take_rows(ys, zs, beside, rows, start, n, multipliers, y, z, i, count);

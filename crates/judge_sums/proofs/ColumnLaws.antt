@@ -7,17 +7,21 @@ use native.Mathlib.Omega.{arith}
 use lib.IntN.{ℤ, pos}
 use lib.ListN.{length}
 use Rattle.endian.specs.Numbers.{little_at}
-use Rattle.judge_sums.specs.Places.{entry_at, multiplier_at, row_place, now_term, next_term, right_term, lift_term, RowsIn, Visited, ColumnOf, Sided, BesideOf, most_entry, most_right}
+use Rattle.judge_sums.specs.Places.{entry_at, right_at, multiplier_at, row_place, now_term, next_term, right_term, lift_term, RowsIn, Visited, ColumnOf, Sided, BesideOf, most_entry, most_right}
 use Rattle.judge_sums.specs.Running.{CanGrow}
 use Rattle.judge_sums.proofs.RunningLaws.{sum_none, sum_more, adds_nothing}
 
 pub row_inside : (bytes : List ℕ) (start n count i : ℕ) → RowsIn bytes start n count → i < count → row_place start n (i + 1) ≤ length bytes
 row_inside bytes start n count i rows below = omega (arith, rows.inside, mul-le-mul_right (4 * n + 4) below)
 
--- a row without weight
+-- a row without weight: for a column's totals, and for those beside the columns
 pub visited_nothing : (multiplier : ℕ) (rows : List ℕ) (first second : ℕ) (now next : ℤ) → multiplier ≡ 0 → Visited multiplier rows first second now next now next
 visited_nothing multiplier rows first second now next none =
     record { now_adds = adds_nothing most_entry none (entry_at rows first) now; next_adds = adds_nothing most_entry none (entry_at rows second) next }
+
+pub sided_nothing : (multiplier : ℕ) (rows : List ℕ) (place : ℕ) (lift right : ℤ) → multiplier ≡ 0 → Sided multiplier rows place lift right lift right
+sided_nothing multiplier rows place lift right none =
+    record { lift_adds = adds_nothing most_entry none (pos 32768) lift; right_adds = adds_nothing most_right none (right_at rows place) right }
 
 module _ (multipliers : List ℕ) (place : ℕ) (rows : List ℕ) (start n j : ℕ) where
   pub column_none : {now next : ℤ} → (now ≡ pos 0) × (next ≡ pos 0) → ColumnOf multipliers place rows start n j 0 now next

@@ -3,3 +3,4 @@ pub mod LiftLaws
 pub mod ListLaws
 pub mod Sample
 pub mod RunningLaws
+pub mod TotalsLaws

@@ -128,3 +128,8 @@ pub record Sided (multiplier : ℕ) (rows : List ℕ) (place : ℕ) (lift right 
 pub record BesideOf (multipliers : List ℕ) (place : ℕ) (rows : List ℕ) (start n count : ℕ) (lift right : ℤ) : Type 0 where
   pub lift_sum : SumOf count most_entry (lift_term multipliers place) lift
   pub right_sum : SumOf count most_right (right_term multipliers place rows start n) right
+
+-- ---- all totals under one list of multipliers over `count` rows: of the columns, and what they come to beside them
+pub record TotalsOf (multipliers : List ℕ) (place : ℕ) (rows : List ℕ) (start n count : ℕ) (sums : List ℤ) (lift right : ℤ) : Type 0 where
+  pub columns : SumsOf multipliers place rows start n count sums
+  pub beside : BesideOf multipliers place rows start n count lift right

@@ -169,6 +169,44 @@ pub struct Besides {
     pub z: Beside,
 }
 
+impl Besides {
+    pub fn new() -> Besides
+        ensures { (result.y.lift ≡ pos 0) × (result.y.right ≡ pos 0) × (result.z.lift ≡ pos 0) × (result.z.right ≡ pos 0) }
+    {
+        Besides {
+            y: Beside::new(),
+            z: Beside::new(),
+        }
+    }
+}
+
+// One row more for all totals under two lists of multipliers: for those of the columns, and for what they come to beside them.
+pub fn take_row(
+    ys: &mut [i64],
+    zs: &mut [i64],
+    beside: Besides,
+    y: usize,
+    z: usize,
+    rows: &[u8],
+    row: usize,
+    n: usize,
+) -> Besides
+    requires { (2 * n ≤ length ys.old) × (2 * n ≤ length zs.old) × AllGrow (2 * n) ys.old × AllGrow (2 * n) zs.old
+        × CanGrow beside.y.lift × CanGrow beside.y.right × CanGrow beside.z.lift × CanGrow beside.z.right
+        × (y < 65536) × (z < 65536) × (row + (4 * n + 4) ≤ length rows.now) × (n < 16384) }
+    ensures { RowAdded y rows.now row (2 * n) ys.old ys.new
+        × RowAdded z rows.now row (2 * n) zs.old zs.new
+        × Sided y rows.now (row + 4 * n) beside.y.lift beside.y.right result.y.lift result.y.right
+        × Sided z rows.now (row + 4 * n) beside.z.lift beside.z.right result.z.lift result.z.right }
+{
+    add_row(ys, zs, y, z, rows, row, 2 * n);
+    let right = row + 4 * n;
+    Besides {
+        y: beside.y.visit(y, rows, right),
+        z: beside.z.visit(z, rows, right),
+    }
+}
+
 // The totals under two lists of multipliers, in one visit of each row: of all columns, and what they
 // come to beside them. The lists of totals start as zeros; every entry is lifted. Past the columns
 // they stay.
@@ -192,22 +230,15 @@ pub fn add_rows(
         × BesideOf multipliers.now z rows.now start n count result.z.lift result.z.right }
 {
     let stride = 4 * n + 4;
-    let right = 4 * n;
-    let mut beside_y = Beside::new();
-    let mut beside_z = Beside::new();
+    let mut beside = Besides::new();
     let mut at = start;
     for i in 0..count {
         let under_y = endian::u16_at(multipliers, y + 2 * i);
         let under_z = endian::u16_at(multipliers, z + 2 * i);
-        add_row(ys, zs, under_y, under_z, rows, at, 2 * n);
-        beside_y = beside_y.visit(under_y, rows, at + right);
-        beside_z = beside_z.visit(under_z, rows, at + right);
+        beside = take_row(ys, zs, beside, under_y, under_z, rows, at, n);
         at += stride;
     }
-    Besides {
-        y: beside_y,
-        z: beside_z,
-    }
+    beside
 }
 
 // The total of the right sides under one list of multipliers.

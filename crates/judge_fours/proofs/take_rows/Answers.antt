@@ -3,7 +3,8 @@ use Rattle.std.proofs.Common.{◌+◌, ◌*◌, ◌≤◌, refl, arith}
 use Rattle.judge_sums.specs.Places.{row_place}
 use Rattle.judge_sums.proofs.ColumnLaws.{row_inside}
 use Rattle.judge_sums.proofs.LiftLaws.{rest_none, rest_more}
-use Rattle.judge_fours.proofs.FourLaws.{known_fits, known_one, known_weightless, known_four}
+use Rattle.judge_sums.proofs.TotalsLaws.{totals_more, totals_weightless}
+use Rattle.judge_fours.proofs.FourLaws.{known_fits, known_four}
 use Rattle.judge_fours.proofs.take_rows.Goals as goal
 
 pub returns-then-under_y-under_z-eq0 : goal.returns-then-under_y-under_z-eq0
@@ -14,8 +15,8 @@ returns-then-under_y-under_z-eq0 c =
       omega (arith, c.requires.5),
       rest_none (2 * a.n) a.ys.now,
       rest_none (2 * a.n) a.zs.now,
-      known_weightless a.multipliers.now a.y a.rows.now a.start a.n a.i c.u16_at-under_y.result row a.ys.now c.requires.6 c.u16_at-under_y.ensures.0 (omega arith) refl,
-      known_weightless a.multipliers.now a.z a.rows.now a.start a.n a.i c.u16_at-under_z.result row a.zs.now c.requires.7 c.u16_at-under_z.ensures.0 (omega arith) refl,
+      totals_weightless a.multipliers.now a.y a.rows.now a.start a.n a.i c.u16_at-under_y.result row a.ys.now c.requires.6 c.u16_at-under_y.ensures.0 (omega arith) refl,
+      totals_weightless a.multipliers.now a.z a.rows.now a.start a.n a.i c.u16_at-under_z.result row a.zs.now c.requires.7 c.u16_at-under_z.ensures.0 (omega arith) refl,
     )
 
 pub take_four-requires : goal.take_four-requires
@@ -58,8 +59,8 @@ returns c =
     let row = row_place a.start a.n a.i in (
       omega arith,
       omega (arith, c.requires.5),
-      rest_more (rest_none (2 * a.n) a.ys.now) c.take_one.ensures.0,
-      rest_more (rest_none (2 * a.n) a.zs.now) c.take_one.ensures.1,
-      known_one a.multipliers.now a.y a.rows.now a.start a.n a.i c.u16_at-under_y.result row c.requires.6 c.u16_at-under_y.ensures.0 c.u16_at-under_y.ensures.1 refl c.take_one.ensures.0 c.take_one.ensures.2,
-      known_one a.multipliers.now a.z a.rows.now a.start a.n a.i c.u16_at-under_z.result row c.requires.7 c.u16_at-under_z.ensures.0 c.u16_at-under_z.ensures.1 refl c.take_one.ensures.1 c.take_one.ensures.3,
+      rest_more (rest_none (2 * a.n) a.ys.now) c.take_row.ensures.0,
+      rest_more (rest_none (2 * a.n) a.zs.now) c.take_row.ensures.1,
+      totals_more a.multipliers.now a.y a.rows.now a.start a.n a.i c.u16_at-under_y.result row c.requires.6 c.u16_at-under_y.ensures.0 c.u16_at-under_y.ensures.1 refl c.take_row.ensures.0 c.take_row.ensures.2,
+      totals_more a.multipliers.now a.z a.rows.now a.start a.n a.i c.u16_at-under_z.result row c.requires.7 c.u16_at-under_z.ensures.0 c.u16_at-under_z.ensures.1 refl c.take_row.ensures.1 c.take_row.ensures.3,
     )

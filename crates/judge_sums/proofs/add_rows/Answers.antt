@@ -1,0 +1,36 @@
+-- `judge_sums::add_rows` meets its contract: the totals start as those of no row, and each turn adds one.
+use Rattle.std.proofs.Common.{◌*◌, arith}
+use Rattle.judge_sums.proofs.LiftLaws.{rest_none, rest_more}
+use Rattle.judge_sums.proofs.TotalsLaws.{totals_none, totals_more}
+use Rattle.judge_sums.proofs.add_rows.Goals as goal
+
+pub loop-i-init : goal.loop-i-init
+loop-i-init c =
+    let a = c.args in
+    let none = c.new-beside.ensures in
+    record {
+      here = omega arith;
+      rest_y = rest_none (2 * a.n) a.ys.now;
+      rest_z = rest_none (2 * a.n) a.zs.now;
+      under_y = totals_none a.multipliers.now a.y a.rows.now a.start a.n a.ys.now c.requires.2 (none.0, none.1);
+      under_z = totals_none a.multipliers.now a.z a.rows.now a.start a.n a.zs.now c.requires.3 (none.2, none.3);
+    }
+
+pub loop-i-preserved : goal.loop-i-preserved
+loop-i-preserved c =
+    let a = c.args in
+    let kept = c.loop-i.invariant in
+    let more = c.take_row-beside.ensures in
+    let read_y = c.u16_at-under_y in
+    let read_z = c.u16_at-under_z in
+    record {
+      here = omega arith;
+      rest_y = rest_more kept.rest_y more.0;
+      rest_z = rest_more kept.rest_z more.1;
+      under_y =
+          totals_more a.multipliers.now a.y a.rows.now a.start a.n c.loop-i.i read_y.result c.loop-i.at kept.under_y read_y.ensures.0 read_y.ensures.1
+          kept.here more.0 more.2;
+      under_z =
+          totals_more a.multipliers.now a.z a.rows.now a.start a.n c.loop-i.i read_z.result c.loop-i.at kept.under_z read_z.ensures.0 read_z.ensures.1
+          kept.here more.1 more.3;
+    }
