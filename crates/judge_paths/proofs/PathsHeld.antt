@@ -2,13 +2,10 @@
 -- it tells of a path by places it tells of the records.
 use mathlib.Core.Path.{◌≡◌, refl, sym, ap, ◌∙◌}
 use Prim.Native.Nat.{ℕ, ◌+◌, ◌*◌, ◌≤◌, ◌<◌}
-use mathlib.Core.Bool.{cond}
 use mathlib.Core.List.{List, [], append-nil}
 use native.Mathlib.Nat.{mul-le-mul_right}
 use native.Mathlib.Omega.{arith}
-use lib.Dec.{eqb}
 use lib.IntN.{ℤ, pos, negsuc, neg_ℤ}
-use borrow.Author.Tests.{eq-eqb, ne_eqb}
 use lib.ListN.{length, get_or}
 use Rattle.endian.specs.Numbers.{little_at}
 use Rattle.refusal.specs.Places.{Throughout}
@@ -33,7 +30,7 @@ use Rattle.judge_sums.specs.Places.{right_at}
 use Rattle.judge_held.proofs.HeldRuns.{rows_held}
 use Rattle.judge_held.proofs.NumbersHeld.{run_is, multipliers_are, start_is}
 use Rattle.verdict_paths.specs.PathContents.{rows_at, path_in, branches_in, component_held, list_held, part_held, lexicographic_in}
-use Rattle.judge_paths.specs.PathByPlaces.{weighted_by, bounded_by, falling_by, staying_by, path_number, PathIn}
+use Rattle.judge_paths.specs.PathByPlaces.{weighted_by, bounded_by, falling_by, staying_by, path_told_by, PathIn}
 
 -- ---- numbers and rows at a place
 
@@ -200,11 +197,8 @@ module _ (loopbytes certificate : List ℕ) (l : PathsSound loopbytes) (x : Lexi
 
     -- ---- what is told
 
-    abbrev told_number : ℕ
-    told_number = path_number loopbytes row n m certificate place first component
-
-    told_is : path_told n B L j ≡ cond (eqb told_number 0) done (refused told_number j)
-    unfolding path_number
+    told_is : path_told_by loopbytes row n m certificate place first component j ≡ path_told n B L j
+    unfolding path_told_by
     told_is =
         let own_place = first + component * (4 * n + 8) in
         let bounded = ap (weighs n) bounding_is in
@@ -214,16 +208,10 @@ module _ (loopbytes certificate : List ℕ) (l : PathsSound loopbytes) (x : Lexi
         either (weighs n (falling_by loopbytes row n m certificate (place + 2 * m) own_place))
         (λ f.
         either (every component (λ i. weighs n (staying_by loopbytes row n m certificate (place + 4 * m) first i)))
-        (λ g. rw (e, f, g) (path_done n B L j (bounded ∙ e) (ranking ∙ f) (none_rises_is ∙ g)))
-        (λ g. rw (e, f, g) (path_53 n B L j (bounded ∙ e) (ranking ∙ f) (none_rises_is ∙ g))))
-        (λ f. rw (e, f) (path_52 n B L j (bounded ∙ e) (ranking ∙ f))))
-        (λ e. rw e (path_51 n B L j (bounded ∙ e)))
-
-    told_none : told_number ≡ 0 → path_told n B L j ≡ done
-    told_none zero = told_is ∙ rw (eq-eqb told_number 0 zero)
-
-    told_some : (told_number ≡ 0 → ⊥) → path_told n B L j ≡ refused told_number j
-    told_some some = told_is ∙ rw (ne_eqb told_number 0 some)
+        (λ g. rw (e, f, g) (sym (path_done n B L j (bounded ∙ e) (ranking ∙ f) (none_rises_is ∙ g))))
+        (λ g. rw (e, f, g) (sym (path_53 n B L j (bounded ∙ e) (ranking ∙ f) (none_rises_is ∙ g)))))
+        (λ f. rw (e, f) (sym (path_52 n B L j (bounded ∙ e) (ranking ∙ f)))))
+        (λ e. rw e (sym (path_51 n B L j (bounded ∙ e))))
 
     -- ---- what lies in the bytes
 
@@ -252,11 +240,8 @@ module _ (loopbytes certificate : List ℕ) (l : PathsSound loopbytes) (x : Lexi
 -- path j stands there, and what is told of it by places is told of the records
 pub record PathRead (loopbytes certificate : List ℕ) (j row n m place first component : ℕ) : Type 0 where
   pub there : PathIn loopbytes row n m certificate place first component
-  pub none : path_number loopbytes row n m certificate place first component ≡ 0
-      → path_told (variables_in loopbytes) (branches_in loopbytes) (lexicographic_in (counted loopbytes) certificate) j ≡ done
-  pub some : (path_number loopbytes row n m certificate place first component ≡ 0 → ⊥)
-      → path_told (variables_in loopbytes) (branches_in loopbytes) (lexicographic_in (counted loopbytes) certificate) j
-      ≡ refused (path_number loopbytes row n m certificate place first component) j
+  pub told : path_told_by loopbytes row n m certificate place first component j
+      ≡ path_told (variables_in loopbytes) (branches_in loopbytes) (lexicographic_in (counted loopbytes) certificate) j
 
 pub path_read : (loopbytes certificate : List ℕ) → PathsSound loopbytes → LexicographicSound (counted loopbytes) certificate → (j row n m place first component : ℕ)
     → j < paths_in loopbytes → row ≡ rows_place loopbytes j → n ≡ variables_in loopbytes → m ≡ rows_in loopbytes j
@@ -266,8 +251,7 @@ path_read loopbytes certificate l x j row n m place first component below row_he
     rw (n_is, m_is, component_is)
     (record {
       there = path_there loopbytes certificate l x j below row place first row_here place_here first_here;
-      none = told_none loopbytes certificate l x j below row place first row_here place_here first_here;
-      some = told_some loopbytes certificate l x j below row place first row_here place_here first_here;
+      told = told_is loopbytes certificate l x j below row place first row_here place_here first_here;
     })
 
 -- ---- all paths
@@ -284,7 +268,7 @@ module _ (loopbytes certificate : List ℕ) where
   unfolding branches_in
   all_hold h = paths_done (branches_in loopbytes) (lexicographic_in (counted loopbytes) certificate) (rw counted_paths h)
 
-  pub one_fails : (j k : ℕ) → j < paths_in loopbytes → Throughout j (λ i. told_at i ≡ done) → told_at j ≡ refused k j
-      → lexicographic_told (branches_in loopbytes) (lexicographic_in (counted loopbytes) certificate) ≡ refused k j
+  pub one_fails : (j k p : ℕ) → j < paths_in loopbytes → Throughout j (λ i. told_at i ≡ done) → told_at j ≡ refused k p
+      → lexicographic_told (branches_in loopbytes) (lexicographic_in (counted loopbytes) certificate) ≡ refused k p
   unfolding branches_in
-  one_fails j k below before fails = paths_refused (branches_in loopbytes) (lexicographic_in (counted loopbytes) certificate) j k j (rw counted_paths below) before fails
+  one_fails j k p below before fails = paths_refused (branches_in loopbytes) (lexicographic_in (counted loopbytes) certificate) j k p (rw counted_paths below) before fails

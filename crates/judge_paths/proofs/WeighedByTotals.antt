@@ -15,10 +15,9 @@ use Rattle.theory.specs.WeightedRows.{Weighted, sum_of, times_v}
 use Rattle.theory_paths.specs.PathConditions.{every, weighs}
 use Rattle.theory_paths.proofs.PathLaws.{every_same}
 use Rattle.judge_sums.specs.Lists.{rights_from}
-use Rattle.judge_sums.specs.Places.{right_at, AllModest}
+use Rattle.judge_sums.specs.Places.{right_at, AllModest, TotalsOf}
 use Rattle.judge_sums.specs.Running.{CanGrow, Modest}
 use Rattle.judge_sums.proofs.LiftLaws.{column_in, sums_modest}
-use Rattle.judge_totals.specs.Visits.{TotalsOf}
 use Rattle.judge_conditions.proofs.Totals.{now_is, next_is, right_is, lift_modest, can_grow}
 use Rattle.judge_paths.specs.PathByPlaces.{weighted_by, column_held, totals_held}
 
@@ -59,8 +58,8 @@ module _ (rows : List ℕ) (row n m : ℕ) (certificate : List ℕ) (place r nex
   pub sizes : AllModest (2 * n) sums × Modest lift × CanGrow right
   sizes = (
     sums_modest certificate place rows row n m sums totals.columns (omega arith),
-    lift_modest m _ lift (omega arith) totals.lifts,
-    can_grow m 140735340871680 _ right (omega arith) (omega arith) totals.rights,
+    lift_modest m _ lift (omega arith) totals.beside.lift_sum,
+    can_grow m 140735340871680 _ right (omega arith) (omega arith) totals.beside.right_sum,
   )
 
   abbrev w : Weighted
@@ -71,7 +70,7 @@ module _ (rows : List ℕ) (row n m : ℕ) (certificate : List ℕ) (place r nex
       ≡ (same_z (sum_of w (A j)) (times_v w w.now j) && same_z (sum_of w (A' j)) (times_v w w.next j))
   unfolding column_held weighted_by
   column_is j below =
-      let under = column_in certificate place rows row n m j sums lift totals.columns totals.lifts below in
+      let under = column_in certificate place rows row n m j sums lift totals.columns totals.beside.lift_sum below in
       let small : m ≤ 65 = omega arith in
       let entry = right_at_lem certificate r n j below in
       ap₂ (λ x y. x && y)
@@ -80,7 +79,7 @@ module _ (rows : List ℕ) (row n m : ℕ) (certificate : List ℕ) (place r nex
 
   right_total : right ≡ sum_of w b
   unfolding weighted_by
-  right_total = right_is certificate place rows row n m right totals.rights
+  right_total = right_is certificate place rows row n m right totals.beside.right_sum
 
   -- ---- all of it
 

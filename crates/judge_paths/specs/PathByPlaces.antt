@@ -4,6 +4,7 @@ use Rattle.std.specs.Prelude.{ℕ, ◌+◌, ◌*◌, ◌≤◌, ◌<◌, Bool, c
 use Rattle.std.specs.Int.Signed.{le_z}
 use Rattle.judge_sums.specs.Lists.{multipliers_from, rights_from, rows_from}
 use Rattle.judge_sums.specs.Places.{right_at, RowsIn}
+use Rattle.refusal.specs.Tests.{Told, done, refused}
 use Rattle.theory.specs.WeightedRows.{Weighted}
 use Rattle.theory_paths.specs.PathConditions.{every, weighs}
 use Rattle.whole.specs.Same.{same_z}
@@ -45,15 +46,15 @@ unfoldable pub staying_by : List ℕ → ℕ → ℕ → ℕ → List ℕ → �
 staying_by rows row n m certificate place first i =
     weighted_by rows row n m certificate (place + 2 * m * i) (first + i * (4 * n + 8)) 1 (pos 0)
 
--- the number that is told of a path whose lists lie from `place` on: 51, 52, 53, or 0
-unfoldable pub path_number : List ℕ → ℕ → ℕ → ℕ → List ℕ → ℕ → ℕ → ℕ → ℕ
-path_number rows row n m certificate place first component =
+-- what is told of path j, whose lists lie from `place` on: 51, 52 or 53, whichever condition fails first
+unfoldable pub path_told_by : List ℕ → ℕ → ℕ → ℕ → List ℕ → ℕ → ℕ → ℕ → ℕ → Told
+path_told_by rows row n m certificate place first component j =
     let own = first + component * (4 * n + 8) in
     cond (weighs n (bounded_by rows row n m certificate place own))
     (cond (weighs n (falling_by rows row n m certificate (place + 2 * m) own))
-    (cond (every component (λ i. weighs n (staying_by rows row n m certificate (place + 4 * m) first i))) 0 53)
-    52)
-    51
+    (cond (every component (λ i. weighs n (staying_by rows row n m certificate (place + 4 * m) first i))) done (refused 53 j))
+    (refused 52 j))
+    (refused 51 j)
 
 -- what lies in the bytes: the rows, m multipliers from a place on, and r
 pub record WeightsIn (rows : List ℕ) (row n m : ℕ) (certificate : List ℕ) (place r : ℕ) : Type 0 where
