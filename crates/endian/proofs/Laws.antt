@@ -3,7 +3,7 @@
 -- The places and lists are explicit, for they stand under functions that compute. Assumes nothing.
 use Prim.Native.Nat.{ℕ, zero, suc, ◌+◌, ◌*◌, ◌-◌, ◌/◌, ◌%◌, ◌^◌, ◌≤◌, ◌<◌}
 use mathlib.Core.Path.{◌≡◌, refl, sym, ap, ◌∙◌}
-use mathlib.Core.List.{List, [], ◌∷◌, ◌++◌}
+use mathlib.Core.List.{List, [], ◌∷◌, ◌++◌, append_assoc}
 use native.Mathlib.Nat.{add-zero, zero-add, suc-add, pow-succ', mod-eq_of_lt, mod-lt, add-mod_right}
 use native.Mathlib.Decide.{dec_lt}
 use native.Mathlib.Omega.{arith}
@@ -11,6 +11,10 @@ use lib.IntN.{ℤ, pos, negsuc, nat_abs, ◌+ℤ◌, ◌-ℤ◌, -ℤ-+ℤ_cance
 use lib.Signed.{mag, nat_abs-le}
 use lib.ListN.{length, get_or, take, drop, length-drop}
 use lib.Seq.{take-nil, take-append-le, drop-append-le, drop-append-add, get_or-drop, drop-drop}
+use mir.Syntax.{Width, w16, w32}
+use mir.Val.{bits, hbits, to_z, of_z}
+use Rattle.std.specs.Int.{to_le_bytes}
+use borrow.Rule.Slice.PartMut.{put_mid}
 use borrow.Author.Tests.{lt-ltb, le-ltb}
 use Rattle.endian.specs.Numbers.{Bytes, little, little_at, digits, signed, unsigned}
 
@@ -91,9 +95,16 @@ pub little_at_suc : (width : ℕ) (bs : List ℕ) (place : ℕ) → little_at (s
 unfolding little_at
 little_at_suc width bs place = rw (little_take, get_or-drop, drop-drop, add-zero)
 
--- two bytes; four are twice two by `little_at_add 2 2`
+-- two bytes and four
 pub little_at_two : (bs : List ℕ) (place : ℕ) → little_at 2 bs place ≡ get_or bs place 0 + 256 * get_or bs (place + 1) 0
 little_at_two bs place = omega (arith, little_at_suc 1 bs place, little_at_suc 0 bs (place + 1), little_at_none bs (place + 1 + 1))
+
+pub little_at_four : (bs : List ℕ) (place : ℕ)
+    → little_at 4 bs place ≡ get_or bs place 0 + 256 * get_or bs (place + 1) 0 + 65536 * get_or bs (place + 2) 0 + 16777216 * get_or bs (place + 3) 0
+little_at_four bs place =
+    let third : place + 1 + 1 ≡ place + 2 = omega arith in
+    let fourth : place + 2 + 1 ≡ place + 3 = omega arith in
+    omega (arith, rw third at (little_at_suc 2 bs (place + 1)), little_at_suc 3 bs place, rw fourth at (little_at_two bs (place + 2)))
 
 -- its lower and its upper part, of any widths
 pub little_at_add : (low high : ℕ) (bs : List ℕ) (place : ℕ) → little_at (low + high) bs place ≡ little_at low bs place + 256 ^ low * little_at high bs (place + low)
@@ -189,13 +200,7 @@ signed_moved half x small =
     let here : x - half < 2 * half = omega arith in
     rw (past, add-mod_right, mod-eq_of_lt here) (minus_less (x - half) half (omega arith) ∙ ap negsuc (omega arith)))
 
--- so x, read as y, gives the whole number that y stands for
-pub signed_read : (half x y : ℕ) (z : ℤ) → x < 2 * half → x ≡ y → z ≡ pos ((x + half) % (2 * half)) -ℤ pos half → (z ≡ signed half y) × (nat_abs z ≤ half)
-signed_read half x y z small read moved =
-    let meant : z ≡ signed half x = moved ∙ signed_moved half x small in
-    (meant ∙ ap (signed half) read, rw meant (signed_size half x small))
-
--- and before half is taken off, that number lifted by half
+-- so x, read as y, before half is taken off, is the whole number that y stands for lifted by half
 pub lifted_read : (half x y : ℕ) → x < 2 * half → x ≡ y
     → let z = pos ((x + half) % (2 * half)) in (z ≡ signed half y +ℤ pos half) × (nat_abs z ≤ 2 * half - 1) × (nat_abs (signed half y) ≤ half)
 lifted_read half x y small read =
@@ -203,18 +208,39 @@ lifted_read half x y small read =
     let below : (x + half) % (2 * half) < 2 * half = mod-lt (x + half) (omega arith) in
     (sym (-ℤ-+ℤ_cancel (pos ((x + half) % (2 * half))) (pos half)) ∙ ap (λ z. z +ℤ pos half) moved, omega (arith, below), rw (← read) (signed_size half x small))
 
--- z moved up by 2 * half is a natural, whose remainder is the stored number
-pub record Moved (half : ℕ) (z : ℤ) : Type 0 where
-  pub up : ℕ
-  pub is : z +ℤ pos (2 * half) ≡ pos up
-  pub small : up < 3 * half
-  pub stored : up % (2 * half) ≡ unsigned half z
+-- ---- std's words for the same: `to_z w` reads a number of a width's bits as signed, `of_z w` gives the bits
 
-pub moved : (half : ℕ) (z : ℤ) → mag z < half → Moved half z
-unfolding unsigned
-moved half (pos n) within =
-    let here : n < 2 * half = omega arith in
-    record { up = n + 2 * half; is = refl; small = omega arith; stored = add-mod_right n (2 * half) ∙ mod-eq_of_lt here }
-moved half (negsuc n) within =
-    let here : 2 * half - suc n < 2 * half = omega arith in
-    record { up = 2 * half - suc n; is = minus_more (2 * half) (suc n) (omega arith); small = omega arith; stored = mod-eq_of_lt here }
+module _ (w : Width) (half : ℕ) (all : 2 ^ bits w ≡ 2 * half) where
+  -- so x, read as y, gives the whole number that y stands for
+  pub signed_read : (x y : ℕ) (z : ℤ) → 2 ^ hbits w ≡ half → x < 2 * half → x ≡ y → z ≡ to_z w x → (z ≡ signed half y) × (nat_abs z ≤ half)
+  signed_read x y z lower small read given =
+      let same : to_z w x ≡ signed half x =
+      by_half half x (λ z. to_z w x ≡ z) small
+      (λ low. rw (lower, lt-ltb x half low) refl)
+      (λ high. rw (lower, le-ltb x half high, all) refl) in
+      let meant : z ≡ signed half x = given ∙ same in
+      (meant ∙ ap (signed half) read, rw meant (signed_size half x small))
+
+  pub unsigned_is : (z : ℤ) → of_z w z ≡ unsigned half z
+  unfolding unsigned
+  unsigned_is (pos n) = refl
+  unsigned_is (negsuc n) = ap (λ k. k - suc n) all
+
+-- two bytes and four, the lowest first
+pub two_bytes : (x : ℕ) → to_le_bytes w16 x ≡ digits 2 x
+unfolding digits
+two_bytes x = refl
+
+pub four_bytes : (x : ℕ) → to_le_bytes w32 x ≡ digits 4 x
+unfolding digits
+four_bytes x =
+    let upper : x / 65536 ≡ x / 256 / 256 = omega arith in
+    let highest : x / 16777216 ≡ x / 256 / 256 / 256 = omega arith in
+    rw (upper, highest) refl
+
+-- bytes copied to a place
+pub put_at : (place wide : ℕ) (room bytes put : List ℕ) → bytes ≡ put
+    → put_mid place (place + wide - place) room bytes ≡ take place room ++ put ++ drop (place + wide) room
+put_at place wide room bytes put is =
+    let k : place + wide - place ≡ wide = omega arith in
+    rw (is, k, drop-drop) (sym (append_assoc (take place room) put (drop (place + wide) room)))
