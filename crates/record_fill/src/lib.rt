@@ -41,14 +41,12 @@ fn write_rows(body: &mut [u8], place: usize, n: usize, count: usize, values: &[i
     requires fit { in_range (rows_of n count) (drop index values.now) ≡ true }
     ensures { body.new ≡ sets body.old place (bytes_of (rows_of n count) (drop index values.now)) }
 {
-    for row in 0..count {
-        write_linear(
-            body,
-            place + row * (4 * n + 4),
-            2 * n,
-            values,
-            index + row * (2 * n + 1),
-        );
+    let mut at = place;
+    let mut i = index;
+    for _ in 0..count {
+        write_linear(body, at, 2 * n, values, i);
+        at += 4 * n + 4;
+        i += 2 * n + 1;
     }
 }
 

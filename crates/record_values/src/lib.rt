@@ -35,14 +35,12 @@ fn read_rows(bytes: &[u8], place: usize, n: usize, count: usize, values: &mut [i
     requires { (place + count * (4 * n + 4) ≤ length bytes.now) × (index + count * (2 * n + 1) ≤ length values.old) }
     ensures { values.new ≡ sets values.old index (held (rows_of n count) (drop place bytes.now)) }
 {
-    for row in 0..count {
-        read_linear(
-            bytes,
-            place + row * (4 * n + 4),
-            2 * n,
-            values,
-            index + row * (2 * n + 1),
-        );
+    let mut at = place;
+    let mut i = index;
+    for _ in 0..count {
+        read_linear(bytes, at, 2 * n, values, i);
+        at += 4 * n + 4;
+        i += 2 * n + 1;
     }
 }
 

@@ -1,14 +1,19 @@
-use Rattle.std.proofs.Common.{refl}
+use Rattle.std.proofs.Common.{refl, arith}
 use Rattle.record.specs.Fields.{values as held}
 use Rattle.record.specs.Layouts.{rows_of}
 use Rattle.record_fields.proofs.Readings.{read_row}
 use Rattle.record_values.proofs.read_rows.Goals as goal
 
-pub loop-row-init : goal.loop-row-init
+pub loop-init : goal.loop-init
 unfolding held rows_of
-loop-row-init c = refl
+loop-init c = record { at_next = omega arith; i_next = omega arith; read = refl }
 
-pub loop-row-preserved : goal.loop-row-preserved
-loop-row-preserved c =
+pub loop-preserved : goal.loop-preserved
+loop-preserved c =
     let a = c.args in
-    read_row a.n c.loop-row.row a.bytes.now a.place a.index a.values.now c.loop-row.values c.loop-row.invariant c.read_linear.ensures
+    let before = c.loop.invariant in
+    record {
+      at_next = omega arith;
+      i_next = omega arith;
+      read = read_row a.n c.loop.counter a.bytes.now a.place a.index a.values.now c.loop.values before.read (rw (before.i_next, before.at_next) at c.read_linear.ensures);
+    }

@@ -1,9 +1,13 @@
-use Rattle.std.proofs.Common.{◌≡◌, drop}
+use Rattle.std.proofs.Common.{◌≡◌, ◌+◌, ◌*◌, drop}
 use Rattle.std.proofs.lemmas.List.Edits.{sets}
 use Rattle.record.specs.Fields.{values as held}
 use Rattle.record.specs.Layouts.{rows_of}
 use Rattle.record_values.proofs.read_rows.Given as goal
 
--- the rows so far are read
-abbrev pub invariant-loop-row : goal.invariant-loop-row
-invariant-loop-row l = l.values ≡ sets l.initial.values l.index (held (rows_of l.n l.row) (drop l.place l.bytes))
+-- the rows so far are read, and the next one stands after them
+abbrev pub invariant-loop : goal.invariant-loop
+invariant-loop l = record {
+  at_next : l.at ≡ l.place + l.counter * (4 * l.n + 4);
+  i_next : l.i ≡ l.index + l.counter * (2 * l.n + 1);
+  read : l.values ≡ sets l.initial.values l.index (held (rows_of l.n l.counter) (drop l.place l.bytes));
+}
