@@ -4,7 +4,7 @@
 use Prim.Native.Nat.{ℕ, zero, suc, ◌+◌, ◌*◌, ◌-◌, ◌/◌, ◌%◌, ◌^◌, ◌≤◌, ◌<◌}
 use mathlib.Core.Path.{◌≡◌, refl, sym, ap, ◌∙◌}
 use mathlib.Core.List.{List, [], ◌∷◌, ◌++◌, append_assoc}
-use native.Mathlib.Nat.{add-zero, zero-add, suc-add, pow-succ', mod-eq_of_lt, mod-lt, add-mod_right}
+use native.Mathlib.Nat.{add-zero, pow-succ', mod-eq_of_lt, mod-lt, add-mod_right}
 use native.Mathlib.Decide.{dec_lt}
 use native.Mathlib.Omega.{arith}
 use lib.IntN.{ℤ, pos, negsuc, nat_abs, ◌+ℤ◌, ◌-ℤ◌, -ℤ-+ℤ_cancel}
@@ -106,13 +106,6 @@ little_at_four bs place =
     let fourth : place + 2 + 1 ≡ place + 3 = omega arith in
     omega (arith, rw third at (little_at_suc 2 bs (place + 1)), little_at_suc 3 bs place, rw fourth at (little_at_two bs (place + 2)))
 
--- its lower and its upper part, of any widths
-pub little_at_add : (low high : ℕ) (bs : List ℕ) (place : ℕ) → little_at (low + high) bs place ≡ little_at low bs place + 256 ^ low * little_at high bs (place + low)
-little_at_add zero high bs place = rw (zero-add, add-zero place, little_at_none) (omega arith)
-little_at_add (suc low) high bs place =
-    let next : place + 1 + low ≡ place + suc low = omega arith in
-    rw (suc-add, little_at_suc (low + high) bs place, little_at_suc low bs place, little_at_add low high bs (place + 1), next, pow-succ') (omega arith)
-
 pub little_at_small : (width : ℕ) (bs : List ℕ) (place : ℕ) → Bytes bs → little_at width bs place < 256 ^ width
 little_at_small zero bs place all = rw little_at_none (omega arith)
 little_at_small (suc width) bs place all =
@@ -141,13 +134,6 @@ minus_less a (suc b) h = rw (lt-ltb a (suc b) h)
 minus_more : (a b : ℕ) → b ≤ a → pos a -ℤ pos b ≡ pos (a - b)
 minus_more a zero h = ap pos (omega arith)
 minus_more a (suc b) h = rw (le-ltb a (suc b) h)
-
-pub minus_mag : (a b bound : ℕ) → a < bound → b ≤ bound → mag (pos a -ℤ pos b) < bound
-minus_mag a b bound ha hb =
-    elim (dec_lt a b) [
-      | yes below ↦ rw (minus_less a b below) (omega arith)
-      | no above ↦ let b≤a : b ≤ a = omega arith in rw (minus_more a b b≤a) (omega arith)
-    ]
 
 -- the lower half stand for themselves
 pub signed_low : (half x : ℕ) → x < half → signed half x ≡ pos x

@@ -5,14 +5,11 @@ use mathlib.Core.Bool.{true}
 use mathlib.Core.List.{List, [], ◌∷◌, ◌++◌, append_assoc, append-nil}
 use native.Mathlib.Nat.{suc-add, suc-mul, mul-le-mul_right}
 use native.Mathlib.Omega.{arith}
-use lib.Dec.{T}
-use lib.IntN.{ℤ, pos, negsuc, nat_abs}
+use lib.IntN.{ℤ, pos}
 use lib.ListN.{length, take, drop, get_or, replicate, length-append, length-drop, length-replicate}
 use lib.Seq.{sets, sets-eq, drop-drop, get_or-drop}
-use lib.Signed.{non_neg}
-use borrow.Author.Tests.{ltb-true}
 use Rattle.refusal.proofs.TestLaws.{both_true, true_both}
-use Rattle.record.specs.Fields.{Form, u16, width, stored, holds, Field, widths, bytes_of, in_range}
+use Rattle.record.specs.Fields.{Form, width, stored, holds, Field, widths, bytes_of, in_range}
 use Rattle.record.specs.Layouts.{row, rows_of}
 use Rattle.record.specs.Ranges.{within}
 use Rattle.record.proofs.FieldLaws.{length_stored, field_holds}
@@ -101,12 +98,6 @@ module _ (form : Form) (wide k : ℕ) (zs : List ℤ) (index count place : ℕ) 
       let long : length (stores form k (drop index zs)) ≡ k * wide = length_stores form k (drop index zs) (omega arith) ∙ ap (λ w. k * w) sized in
       rw (stores_more form k (drop index zs) here, get_or-drop)
       (sets_both room place (place + k * wide) (stores form k (drop index zs)) (stored form (get_or zs (index + k) (pos 0))) so_far put (ap (λ w. place + w) (sym long)))
-
--- a u16 holds no negative number
-pub held_u16 : (z : ℤ) → holds u16 z ≡ true → T (non_neg z) × (nat_abs z < 65536)
-unfolding holds
-held_u16 (pos k) h = (tt, ltb-true k 65536 h)
-held_u16 (negsuc k) h = let wrong : ◌≡◌ {A = ℕ} 0 1 = cc in absurd (omega arith)
 
 -- bytes put at a place
 pub put_is : (room bytes : List ℕ) (place wide : ℕ) → length bytes ≡ wide → place + wide ≤ length room → take place room ++ bytes ++ drop (place + wide) room ≡ sets room place bytes
