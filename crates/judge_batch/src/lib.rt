@@ -117,32 +117,32 @@ fn flat_certificate(
 {
     let head = record_check::frame(certificate);
     if head.number != 0 {
-        return verdict_flat::flat_verdict(judge::refused(2, head.number, head.place));
+        return FlatVerdict::from(judge::refused(2, head.number, head.place));
     }
     let kind = endian::u16_at(certificate, 4);
     match kind {
-        2 => verdict_flat::flat_verdict(judge::by_ranking(
+        2 => FlatVerdict::from(judge::by_ranking(
             &loopbytes[..],
             n,
             m,
             &certificate[..],
             rank,
         )),
-        4 => verdict_flat::flat_verdict(judge::by_lasso(
+        4 => FlatVerdict::from(judge::by_lasso(
             &loopbytes[..],
             n,
             m,
             &certificate[..],
             rank,
         )),
-        8 => verdict_flat::flat_verdict(judge_by_kind::settling_sound(
+        8 => FlatVerdict::from(judge_by_kind::settling_sound(
             &loopbytes[..],
             n,
             m,
             &certificate[..],
             rank,
         )),
-        _ => verdict_flat::flat_verdict(judge_others(
+        _ => FlatVerdict::from(judge_others(
             &loopbytes[..],
             n,
             m,
@@ -173,7 +173,7 @@ pub fn flat_part(
 {
     let certificate = &bytes[from..end];
     if endian::u16_at(loopbytes, 4) == 5 {
-        return verdict_flat::flat_verdict(judge_by_kind::judge_paths_sound(loopbytes, certificate));
+        return FlatVerdict::from(judge_by_kind::judge_paths_sound(loopbytes, certificate));
     }
     let n = endian::u16_at(loopbytes, 6);
     let m = endian::u16_at(loopbytes, 8);
@@ -198,5 +198,5 @@ pub fn judge_part(
         (rank_answered loopbytes.now (take (end - from) (drop from bytes.now)) (stretch (variables loopbytes.now) i ranks.old))
         ranks.old) }
 {
-    verdict_flat::verdict_of(flat_part(loopbytes, bytes, from, end, i, ranks))
+    Verdict::from(flat_part(loopbytes, bytes, from, end, i, ranks))
 }

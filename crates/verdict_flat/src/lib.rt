@@ -37,20 +37,23 @@ fn flat_told(v: Verdict, outcome: usize, start: i64, fall: i64, grade: usize) ->
     }
 }
 
-pub fn flat_verdict(v: Verdict) -> FlatVerdict
-    ensures { result ≡ flat_verdict v }
-{
-    let outcome = v.outcome;
-    match outcome {
-        Outcome::Nothing => flat_told(v, 0, 0, 0, 0),
-        Outcome::Ranking { start, fall } => flat_told(v, 2, start, fall, 0),
-        Outcome::Exclusion { grade } => match grade {
-            Grade::Whole => flat_told(v, 3, 0, 0, 1),
-            Grade::Fractions => flat_told(v, 3, 0, 0, 2),
-        },
-        Outcome::Lasso { start, fall } => flat_told(v, 4, start, fall, 0),
-        Outcome::Lexicographic => flat_told(v, 6, 0, 0, 0),
-        Outcome::Settling { start, fall } => flat_told(v, 8, start, fall, 0),
+impl From<Verdict> for FlatVerdict {
+    ghost from_gives = { λ v flat. flat ≡ flat_verdict v };
+
+    fn from(v: Verdict) -> FlatVerdict {
+        match v.outcome {
+            Outcome::Nothing => flat_told(v, 0, 0, 0, 0),
+            Outcome::Ranking { start, fall } => flat_told(v, 2, start, fall, 0),
+            Outcome::Exclusion {
+                grade: Grade::Whole,
+            } => flat_told(v, 3, 0, 0, 1),
+            Outcome::Exclusion {
+                grade: Grade::Fractions,
+            } => flat_told(v, 3, 0, 0, 2),
+            Outcome::Lasso { start, fall } => flat_told(v, 4, start, fall, 0),
+            Outcome::Lexicographic => flat_told(v, 6, 0, 0, 0),
+            Outcome::Settling { start, fall } => flat_told(v, 8, start, fall, 0),
+        }
     }
 }
 
@@ -83,13 +86,15 @@ fn outcome_of(outcome: usize, start: i64, fall: i64, grade: usize) -> Outcome
 }
 
 // The verdict that some numbers are of.
-pub fn verdict_of(v: FlatVerdict) -> Verdict
-    ensures { result ≡ verdict_back v }
-{
-    Verdict {
-        number: v.number,
-        place: v.place,
-        about: v.record,
-        outcome: outcome_of(v.outcome, v.start, v.fall, v.grade),
+impl From<FlatVerdict> for Verdict {
+    ghost from_gives = { λ flat v. v ≡ verdict_back flat };
+
+    fn from(v: FlatVerdict) -> Verdict {
+        Verdict {
+            number: v.number,
+            place: v.place,
+            about: v.record,
+            outcome: outcome_of(v.outcome, v.start, v.fall, v.grade),
+        }
     }
 }

@@ -31,14 +31,14 @@ frame-requires c κs = search rules
 refused-requires : tie.Need-refused-requires
 refused-requires c κs = search rules
 
-flat-verdict-requires : tie.Need-flat_verdict-requires
-flat-verdict-requires c κs = search rules
+from-requires : tie.Need-from-requires
+from-requires c κs = search rules
 
 returns : tie.Need-returns-then-head-ne0
 returns c =
     let called = c.before in
     let head = called.before.before.before in
-    in_numbers c.flat_verdict.ensures (Ways.by_frame _ _ _ (start head).requires head.frame-head.result head.frame-head.ensures called.if-head-ne0.true _ called.refused.ensures)
+    in_numbers c.from.ensures (Ways.by_frame _ _ _ (start head).requires head.frame-head.result head.frame-head.ensures called.if-head-ne0.true _ called.refused.ensures)
 
 u16-at-requires : tie.Need-u16_at-kind-requires
 u16-at-requires c κs = (right_frame c).head
@@ -46,26 +46,26 @@ u16-at-requires c κs = (right_frame c).head
 by-ranking-requires : tie.Need-by_ranking-requires
 by-ranking-requires c κs = let read = c.before.before in ((s read).requires, Ways.open_as (past read) 2 c.in-2.is)
 
-flat-verdict-requires-2 : tie.Need-flat_verdict-requires-in-2
-flat-verdict-requires-2 c κs = search rules
+from-requires-2 : tie.Need-from-requires-in-2
+from-requires-2 c κs = search rules
 
 by-lasso-requires : tie.Need-by_lasso-requires
 by-lasso-requires c κs = let read = c.before.before in ((s read).requires, Ways.open_as (past read) 4 c.in-4.is)
 
-flat-verdict-requires-3 : tie.Need-flat_verdict-requires-in-4
-flat-verdict-requires-3 c κs = search rules
+from-requires-3 : tie.Need-from-requires-in-4
+from-requires-3 c κs = search rules
 
 settling-sound-requires : tie.Need-settling_sound-requires
 settling-sound-requires c κs = (s c.before.before).requires
 
-flat-verdict-requires-4 : tie.Need-flat_verdict-requires-in-8
-flat-verdict-requires-4 c κs = search rules
+from-requires-4 : tie.Need-from-requires-in-8
+from-requires-4 c κs = search rules
 
 judge-others-requires : tie.Need-judge_others-requires
 judge-others-requires c κs = let rest = c.before.in_default.in_default-own.rest in (past c.before.before, (rest.0.0.1, rest.0.1, rest.1))
 
-flat-verdict-requires-5 : tie.Need-flat_verdict-requires-in_default
-flat-verdict-requires-5 c κs = search rules
+from-requires-5 : tie.Need-from-requires-in_default
+from-requires-5 c κs = search rules
 
 same_length : tie.Need-shape_of-rank-in-2
 same_length c = search rules
@@ -75,7 +75,7 @@ returns-2 c =
     let called = c.before.before in
     let arm = called.before.before in
     let read = arm.before in
-    in_numbers c.flat_verdict-in-2.ensures (Ways.by_base (past read) (s read).args.rank.now 2 arm.in-2.is (omega arith) _ _ called.by_ranking.ensures)
+    in_numbers c.from-in-2.ensures (Ways.by_base (past read) (s read).args.rank.now 2 arm.in-2.is (omega arith) _ _ called.by_ranking.ensures)
 
 same-length-2 : tie.Need-shape_of-rank-in-4
 same-length-2 c = search rules
@@ -85,7 +85,7 @@ returns-3 c =
     let called = c.before.before in
     let arm = called.before.before in
     let read = arm.before in
-    in_numbers c.flat_verdict-in-4.ensures (Ways.by_base (past read) (s read).args.rank.now 4 arm.in-4.is (omega arith) _ _ called.by_lasso.ensures)
+    in_numbers c.from-in-4.ensures (Ways.by_base (past read) (s read).args.rank.now 4 arm.in-4.is (omega arith) _ _ called.by_lasso.ensures)
 
 same-length-3 : tie.Need-shape_of-rank-in-8
 same-length-3 c = search rules
@@ -95,13 +95,13 @@ returns-4 c =
     let called = c.before.before in
     let arm = called.before.before in
     let read = arm.before in
-    in_numbers c.flat_verdict-in-8.ensures (Ways.by_eight (past read) (s read).args.rank.now arm.in-8.is _ _ called.settling_sound.ensures)
+    in_numbers c.from-in-8.ensures (Ways.by_eight (past read) (s read).args.rank.now arm.in-8.is _ _ called.settling_sound.ensures)
 
 same-length-4 : tie.Need-shape_of-rank-in_default
 same-length-4 c = search rules
 
 returns-5 : tie.Need-returns-in_default
-returns-5 c = in_numbers c.flat_verdict-in_default.ensures c.judge_others.ensures
+returns-5 c = in_numbers c.from-in_default.ensures c.judge_others.ensures
 
 pub flat_certificate_spec : {M : Type 1} → statement M
 flat_certificate_spec =
@@ -109,17 +109,17 @@ flat_certificate_spec =
     (tie.spec
     frame-requires
     refused-requires
-    flat-verdict-requires
+    from-requires
     returns
     u16-at-requires
     by-ranking-requires
-    flat-verdict-requires-2
+    from-requires-2
     by-lasso-requires
-    flat-verdict-requires-3
+    from-requires-3
     settling-sound-requires
-    flat-verdict-requires-4
+    from-requires-4
     judge-others-requires
-    flat-verdict-requires-5
+    from-requires-5
     same_length
     returns-2
     same-length-2

@@ -59,14 +59,14 @@ u16-at-requires c κs = let s = c.before.before.before in omega (arith, loop_lon
 judge-paths-sound-requires : tie.Need-judge_paths_sound-requires
 judge-paths-sound-requires c κs = let s = start c.before in sym (as_paths s.args.loopbytes.now (paths-told c)) ∙ s.requires.0
 
-flat-verdict-requires : tie.Need-flat_verdict-requires
-flat-verdict-requires c κs = search rules
+from-requires : tie.Need-from-requires
+from-requires c κs = search rules
 
 returns : tie.Need-returns-then-u16_at-eq5
 returns c =
     let called = c.before in
     let s = start called.before.before in
-    in_numbers c.flat_verdict.ensures
+    in_numbers c.from.ensures
     (paths_part s.args.loopbytes.now _ s.args.ranks.now s.args.i called.judge_paths_sound.result (paths-told called.before) called.judge_paths_sound.ensures)
 
 u16-at-requires-2 : tie.Need-u16_at-n-requires
@@ -120,7 +120,7 @@ flat_part_spec =
     part-certificate-end
     u16-at-requires
     judge-paths-sound-requires
-    flat-verdict-requires
+    from-requires
     returns
     u16-at-requires-2
     u16-at-requires-3

@@ -1,4 +1,4 @@
--- `verdict_flat::flat_verdict` meets its contract: in each arm the numbers are those of the outcome that is there.
+-- `FlatVerdict::from` meets its contract: in each arm the numbers are those of the outcome that is there.
 use Rattle.std.proofs.Common.{◌≡◌, rules}
 use mir.Syntax.{w64}
 use mir.Val.{SFits}
@@ -10,7 +10,7 @@ use Rattle.verdict.specs.declared.Outcome.{Outcome}
 use Rattle.verdict.specs.declared.Outcome.TheVariants.{Nothing, Ranking, Exclusion, Lasso, Lexicographic, Settling}
 use Rattle.verdict.specs.declared.Verdict.{Verdict}
 use Rattle.verdict_flat.specs.FlatVerdicts.{told, flat_verdict}
-use Rattle.verdict_flat.proofs.flat_verdict.Goals as goal
+use Rattle.verdict_flat.proofs.FlatVerdictFromVerdict.from.Goals as goal
 
 -- a verdict is told by the numbers of what its outcome is
 by_outcome : (v : Verdict) (o : Outcome) → v.outcome ≡ o → told v (numbers o) ≡ flat_verdict v
@@ -27,13 +27,15 @@ returns-in-Ranking c =
     let fall : SFits w64 c.in-Ranking.fall = search rules in
     (rw (to_z-of_z start, to_z-of_z fall) at c.flat_told-in-Ranking.ensures) ∙ by_outcome _ (Ranking _ _) c.in-Ranking.is
 
-pub returns-in-Whole : goal.returns-in-Whole
+pub returns-in-Exclusion-Whole : goal.returns-in-Exclusion-Whole
 unfolding numbers grade_number
-returns-in-Whole c = c.flat_told-in-Whole.ensures ∙ by_outcome _ (Exclusion Whole) (c.in-Exclusion.is ∙ ap Exclusion c.in-Whole.is)
+returns-in-Exclusion-Whole c =
+    c.flat_told-in-Exclusion-Whole.ensures ∙ by_outcome _ (Exclusion Whole) (c.in-Exclusion-Whole.is ∙ ap Exclusion (rw c.in-Exclusion-Whole.is at c.in-Exclusion-Whole.grade-is))
 
-pub returns-in-Fractions : goal.returns-in-Fractions
+pub returns-in-Exclusion-Fractions : goal.returns-in-Exclusion-Fractions
 unfolding numbers grade_number
-returns-in-Fractions c = c.flat_told-in-Fractions.ensures ∙ by_outcome _ (Exclusion Fractions) (c.in-Exclusion.is ∙ ap Exclusion c.in-Fractions.is)
+returns-in-Exclusion-Fractions c =
+    c.flat_told-in-Exclusion-Fractions.ensures ∙ by_outcome _ (Exclusion Fractions) (c.in-Exclusion-Fractions.is ∙ ap Exclusion (rw c.in-Exclusion-Fractions.is at c.in-Exclusion-Fractions.grade-is))
 
 pub returns-in-Lasso : goal.returns-in-Lasso
 unfolding numbers
