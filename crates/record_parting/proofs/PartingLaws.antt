@@ -108,3 +108,14 @@ records_more [] some = absurd (omega arith)
 records_more (x ∷ input) some =
     let less : length (after_first (x ∷ input)) < length (x ∷ input) = fewer (x ∷ input) some in
     ap (λ rest. first_record (x ∷ input) ∷ rest) (up_to_same (length input) (length (after_first (x ∷ input))) (after_first (x ∷ input)) (omega arith) (omega arith))
+
+-- no more records than bytes
+up_to_few : (most : ℕ) (input : List ℕ) → length (up_to most input) ≤ most
+unfolding up_to
+up_to_few zero input = omega arith
+up_to_few (suc most) [] = omega arith
+up_to_few (suc most) (b ∷ input) = omega (arith, up_to_few most (after_first (b ∷ input)))
+
+pub records_few : (input : List ℕ) → length (records input) ≤ length input
+unfolding records
+records_few input = up_to_few (length input) input

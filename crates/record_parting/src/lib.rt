@@ -3,6 +3,7 @@
 #![tactic(auto)]
 
 ghost use Rattle.std.specs.Prelude.{◌+◌, ◌*◌, ◌≤◌, ◌≡◌, length, drop};
+ghost use Rattle.std.specs.Iterator.{YieldsFirstRef, item_count};
 ghost use Rattle.record_parting.specs.Parting.{taken, records};
 
 // How many bytes the first record takes.
@@ -20,6 +21,27 @@ pub fn first_end(input: &[u8]) -> usize
         return input.len();
     }
     end
+}
+
+// The records of some bytes, one after another.
+#[derive(Clone, Copy, Drop)]
+pub struct Records<'a>(pub &'a [u8]);
+
+impl<'a> Iterator for Records<'a> {
+    type Item = &'a [u8];
+
+    ghost next_gives = { YieldsFirstRef (λ left. records left.0.now) };
+
+    ghost remaining = { item_count (λ left. records left.0.now) };
+
+    fn next(&mut self) -> Option<&'a [u8]> {
+        if self.0.is_empty() {
+            return None;
+        }
+        let (record, rest) = self.0.split_at(first_end(self.0));
+        self.0 = rest;
+        Some(record)
+    }
 }
 
 // Where the record ends that starts at a place.
@@ -56,11 +78,6 @@ pub fn count(bytes: &[u8]) -> usize
     ensures { result ≡ length (records bytes.now) }
 {
     let size = first_end(bytes);
-    let mut count = alike(bytes, size);
-    let mut from = count * size;
-    while from < bytes.len() {
-        from = end_at(bytes, from);
-        count += 1;
-    }
-    count
+    let alike = alike(bytes, size);
+    alike + Records(&bytes[alike * size..]).count()
 }
