@@ -11,6 +11,8 @@ ghost use Rattle.judge.specs.SoundPairs.{LoopSound};
 ghost use Rattle.record_parting.specs.Parting.{records};
 ghost use Rattle.sheet_text.specs.Sheets.{certificate_line, lines, judged, sheet_text};
 
+use record_parting::Records;
+
 // Judges a certificate for a sound loop of n variables and m rows, and writes its line.
 pub fn put_certificate(
     text: &mut [u8],
@@ -44,13 +46,9 @@ fn put_certificates(
     ensures { Puts text.old place (lines loopbytes.now 1 (records certificates.now)) result text.new }
 {
     let mut at = place;
-    let mut from = 0;
     let mut count = 1;
-    while from < certificates.len() {
-        let rest = &certificates[from..];
-        let end = record_parting::first_end(rest);
-        at = put_certificate(text, at, loopbytes, n, m, count, &rest[..end]);
-        from += end;
+    for certificate in Records(certificates) {
+        at = put_certificate(text, at, loopbytes, n, m, count, certificate);
         count += 1;
     }
     at

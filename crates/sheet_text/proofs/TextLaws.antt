@@ -50,6 +50,12 @@ module _ (loop : List ℕ) (count : ℕ) where
   unfolding lines
   lines_none = ap (lines loop count) records_none
 
+  -- the first certificate's line, and then the others
+  pub lines_first : (certificates : List (List ℕ)) (certificate : List ℕ) (others : List (List ℕ)) → certificates ≡ certificate ∷ others
+      → lines loop count certificates ≡ certificate_line loop count certificate ++ lines loop (count + 1) others
+  unfolding lines
+  lines_first certificates certificate others is = rw (is, add-one)
+
   pub lines_more : (input : List ℕ) → 0 < length input → lines loop count (records input) ≡ certificate_line loop count (first_record input) ++ lines loop (suc count) (records (after_first input))
   unfolding lines
   lines_more input some = ap (lines loop count) (records_more input some)
