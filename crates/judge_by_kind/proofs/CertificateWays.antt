@@ -10,8 +10,10 @@ use Rattle.endian.specs.Numbers.{little_at}
 use Rattle.record.specs.Readers.{framing, loop_reader}
 use Rattle.record.specs.declared.Wanted.{Wanted}
 use Rattle.record.proofs.KindLaws.{unwanted_kind}
-use Rattle.record_check.specs.Checks.{framed, Opened}
-use Rattle.record_check.specs.declared.Checked.{Checked}
+use Rattle.record_check.specs.Checks.{Opened}
+use Rattle.record_check.proofs.FrameWays.{stopped}
+use Rattle.refusal.specs.declared.Fault.{Fault}
+use Rattle.refusal.specs.Faults.{result_of}
 use Rattle.refusal.specs.Tests.{first}
 use Rattle.verdict.specs.Judging.{judge_of}
 use Rattle.verdict.specs.Stages.{refusal_of}
@@ -37,10 +39,10 @@ of_rows {loopbytes} sound-loop = kind_1_by_rows loopbytes sound-loop.told
 
 -- the frame refuses alike whatever the kind
 pub by_frame : (loopbytes certificate : List ℕ) (lent : List ℤ) {n m : ℕ} → LoopSound loopbytes n m
-    → (head : Checked) → head ≡ framed (first framing (loop_reader certificate [])) → (head.number ≡ 0 → ⊥)
-    → (v : Verdict) → v ≡ refusal_of 2 head.number head.place → Answers loopbytes certificate lent v lent
-by_frame loopbytes certificate lent sound-loop head is some v v_is =
-    let by = unframed loopbytes certificate lent (of_rows sound-loop) sound-loop.told _ _ (frame_told certificate head is some) in
+    → (f : Fault) → stopped f ≡ result_of (first framing (loop_reader certificate [])) tt
+    → (v : Verdict) → v ≡ refusal_of 2 f.number f.place → Answers loopbytes certificate lent v lent
+by_frame loopbytes certificate lent sound-loop f is v v_is =
+    let by = unframed loopbytes certificate lent (of_rows sound-loop) sound-loop.told _ _ (frame_told certificate f is) in
     (v_is ∙ by.0, by.1)
 
 -- ---- past the frame, where the number of the kind is read

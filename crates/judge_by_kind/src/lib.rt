@@ -11,7 +11,7 @@ ghost use Rattle.refusal.specs.Tests.{done, first};
 ghost use Rattle.verdict_paths.specs.PathJudging.{path_judges};
 ghost use Rattle.verdict_short.specs.Answers.{answered, rank_answered};
 ghost use Rattle.judge.specs.SoundPairs.{LoopSound};
-ghost use Rattle.judge_by_kind.specs.SettlingShown.{settling_shown, SettlingJudged};
+ghost use Rattle.judge_by_kind.specs.SettlingShown.{SettlingJudged};
 
 use judge_ranking::Ranked;
 use verdict::{Outcome, Verdict};
@@ -21,39 +21,23 @@ pub fn judge_paths_sound(loopbytes: &[u8], certificate: &[u8]) -> Verdict
     requires { first sound_paths (bytes_alone loopbytes.now) ≡ done }
     ensures { result ≡ path_judges (record { loopbytes = loopbytes.now; certificate = certificate.now }) }
 {
-    let fault = record_paths_check::check_lexicographic(loopbytes, certificate);
-    if fault.number != 0 {
+    if let Err(fault) = record_paths_check::check_lexicographic(loopbytes, certificate) {
         return judge::refused(2, fault.number, fault.place);
     }
-    let told = judge_paths::paths_fault(loopbytes, certificate);
-    if told.number != 0 {
-        return judge::refused(2, told.number, told.place);
+    match judge_paths::paths_fault(loopbytes, certificate) {
+        Ok(()) => judge::accepted(Outcome::Lexicographic),
+        Err(fault) => judge::refused(2, fault.number, fault.place),
     }
-    judge::accepted(Outcome::Lexicographic)
 }
 
 // A loop of several paths, kind 5, with a certificate of kind 6.
 fn judge_paths(loopbytes: &[u8], certificate: &[u8]) -> Verdict
     ensures { result ≡ path_judges (record { loopbytes = loopbytes.now; certificate = certificate.now }) }
 {
-    let fault = record_paths_check::check_paths(loopbytes);
-    if fault.number != 0 {
-        return judge::refused(1, fault.number, fault.place);
+    match record_paths_check::check_paths(loopbytes) {
+        Ok(()) => judge_paths_sound(loopbytes, certificate),
+        Err(fault) => judge::refused(1, fault.number, fault.place),
     }
-    judge_paths_sound(loopbytes, certificate)
-}
-
-// The verdict of a settling, from what its conditions tell.
-fn settling_verdict(shown: Ranked) -> Verdict
-    ensures { result ≡ settling_shown shown }
-{
-    if shown.number != 0 {
-        return judge::refused(2, shown.number, shown.place);
-    }
-    judge::accepted(Outcome::Settling {
-        start: shown.start,
-        fall: shown.fall,
-    })
 }
 
 // A certificate of kind 8, for a loop record that has been checked.
@@ -67,14 +51,16 @@ pub fn settling_sound(
     requires { LoopSound loopbytes.now n m }
     ensures { SettlingJudged loopbytes.now certificate.now rank.old result rank.new }
 {
-    let fault = record_settling::check_settling(certificate, n, m);
-    if fault.number != 0 {
+    if let Err(fault) = record_settling::check_settling(certificate, n, m) {
         return judge::refused(2, fault.number, fault.place);
     }
     if rank.len() < n {
         return judge::refused(0, 7, n);
     }
-    settling_verdict(judge_settling::settling(loopbytes, judge::FIRST_ROW, n, m, certificate, rank))
+    match judge_settling::settling(loopbytes, judge::FIRST_ROW, n, m, certificate, rank) {
+        Ok(Ranked { start, fall }) => judge::accepted(Outcome::Settling { start, fall }),
+        Err(fault) => judge::refused(2, fault.number, fault.place),
+    }
 }
 
 // Judges a certificate for a loop record that has been checked: its frame is the same for every kind, and its kind decides the rest. Slices are
@@ -90,9 +76,8 @@ fn judge_certificate(
     ensures { (result ≡ answered loopbytes.now certificate.now rank.old)
         × (rank.new ≡ rank_answered loopbytes.now certificate.now rank.old) }
 {
-    let head = record_check::frame(certificate);
-    if head.number != 0 {
-        return judge::refused(2, head.number, head.place);
+    if let Err(fault) = record_check::frame(certificate) {
+        return judge::refused(2, fault.number, fault.place);
     }
     match endian::u16_at(certificate, 4) {
         2 => judge::by_ranking(&loopbytes[..], n, m, &certificate[..], rank),
@@ -110,11 +95,10 @@ fn judge_rows(loopbytes: &[u8], certificate: &[u8], rank: &mut [i64]) -> Verdict
     ensures { (result ≡ answered loopbytes.now certificate.now rank.old)
         × (rank.new ≡ rank_answered loopbytes.now certificate.now rank.old) }
 {
-    let said = record_check::loop_record(loopbytes);
-    if said.number != 0 {
-        return judge::refused(1, said.number, said.place);
+    match record_check::loop_record(loopbytes) {
+        Ok(checked) => judge_certificate(loopbytes, checked.n, checked.m, certificate, rank),
+        Err(fault) => judge::refused(1, fault.number, fault.place),
     }
-    judge_certificate(loopbytes, said.n, said.m, certificate, rank)
 }
 
 // Judges a certificate's bytes for a loop's bytes.
@@ -122,9 +106,8 @@ pub fn judge(loopbytes: &[u8], certificate: &[u8], rank: &mut [i64]) -> Verdict
     ensures value { result ≡ answered loopbytes.now certificate.now rank.old }
     ensures rank_after { rank.new ≡ rank_answered loopbytes.now certificate.now rank.old }
 {
-    let head = record_check::frame(loopbytes);
-    if head.number != 0 {
-        return judge::refused(1, head.number, head.place);
+    if let Err(fault) = record_check::frame(loopbytes) {
+        return judge::refused(1, fault.number, fault.place);
     }
     match endian::u16_at(loopbytes, 4) {
         1 => judge_rows(loopbytes, certificate, rank),

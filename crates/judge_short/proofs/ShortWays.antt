@@ -19,13 +19,14 @@ use Rattle.record_short.specs.ShortRecords.{sound_short, long_bytes}
 use Rattle.record_short.specs.Conversions.{ranking_given}
 use Rattle.record_short.proofs.LengthenShorten.{long_is_sound, long_is_done}
 use Rattle.record_short.proofs.LongRecords.{length_long}
-use Rattle.record_short.proofs.ShortSound.{ShortSound, short_sound, short_named}
+use Rattle.record_short.proofs.ShortSound.{ShortSound, short_sound}
 use Rattle.record_short_write.specs.Rooms.{Lengthens}
 use Rattle.record_short_write.proofs.ConversionWays.{sound_lengthens}
-use Rattle.refusal.specs.Faults.{fault_of}
+use Rattle.record_check.proofs.FrameWays.{stopped, right}
+use Rattle.refusal.specs.Faults.{result_of}
 use Rattle.refusal.specs.Tests.{done, first}
 use Rattle.refusal.specs.declared.Fault.{Fault}
-use Rattle.refusal.proofs.FaultLaws.{fault_refused, fault_done}
+use Rattle.refusal.proofs.FaultLaws.{told_refused, told_done}
 use Rattle.refusal.proofs.TestLaws.{either, passes_done, done_passes}
 use Rattle.verdict.specs.Bounding.{bounds, bound_of}
 use Rattle.verdict.specs.Judging.{judges, rank_after, judge_of}
@@ -69,8 +70,7 @@ wanted_done bytes n m told wants wanted =
 
 -- ---- known to be short, for a sound loop
 
-module _ (loopbytes : List ℕ) (n m : ℕ) (l : LoopSound loopbytes n m) (certificate : List ℕ) (short : of_short certificate ≡ true) (f : Fault)
-    (is : f ≡ fault_of (first (sound_short n m) (bytes_alone certificate))) where
+module _ (loopbytes : List ℕ) (n m : ℕ) (l : LoopSound loopbytes n m) (certificate : List ℕ) (short : of_short certificate ≡ true) where
   abbrev p : ShortPair
   p = short_pair loopbytes certificate
 
@@ -79,17 +79,19 @@ module _ (loopbytes : List ℕ) (n m : ℕ) (l : LoopSound loopbytes n m) (certi
   unfolding variables_of rows_for
   read_so = rw (l.n_is, l.m_is)
 
-  pub refused_so : (f.number ≡ 0 → ⊥) → (lent : List ℤ)
+  pub refused_so : (f : Fault) → stopped f ≡ result_of (first (sound_short n m) (bytes_alone certificate)) tt → (lent : List ℤ)
       → (judged_or_short loopbytes certificate lent ≡ refusal_of 2 f.number f.place) × (ranked_or_short loopbytes certificate lent ≡ lent)
       × (bounded_or_short loopbytes certificate lent ≡ record { verdict = refusal_of 2 f.number f.place; bound = 0 })
-  refused_so some lent = short_refused loopbytes certificate l.told short f.number f.place (sym read_so ∙ fault_refused f _ is some) lent
+  refused_so f is lent =
+      let told = told_refused (first (sound_short n m) (bytes_alone certificate)) tt f is in
+      short_refused loopbytes certificate l.told short f.number f.place (sym read_so ∙ told) lent
 
-  module _ (zero : f.number ≡ 0) where
-    told_done : first (sound_short n m) (bytes_alone certificate) ≡ done
-    told_done = fault_done f _ is (short_named n m certificate) zero
+  module _ (is : right ≡ result_of (first (sound_short n m) (bytes_alone certificate)) tt) where
+    sound_so : first (sound_short n m) (bytes_alone certificate) ≡ done
+    sound_so = told_done (first (sound_short n m) (bytes_alone certificate)) tt tt is
 
     pub short_is_sound : ShortSound n m certificate
-    short_is_sound = short_sound n m certificate told_done
+    short_is_sound = short_sound n m certificate sound_so
 
     pub can_lengthen : Lengthens m certificate
     can_lengthen = sound_lengthens n m certificate short_is_sound
@@ -102,7 +104,7 @@ module _ (loopbytes : List ℕ) (n m : ℕ) (l : LoopSound loopbytes n m) (certi
     pub judged_as_long : (lent : List ℤ) → (judged_or_short loopbytes certificate lent ≡ judges (judge_of loopbytes (long_of p) lent))
         × (ranked_or_short loopbytes certificate lent ≡ rank_after (judge_of loopbytes (long_of p) lent) lent)
         × (bounded_or_short loopbytes certificate lent ≡ bounds (bound_of loopbytes (long_of p) lent))
-    judged_as_long lent = short_as_long loopbytes certificate l.told (sym read_so ∙ told_done) short lent
+    judged_as_long lent = short_as_long loopbytes certificate l.told (sym read_so ∙ sound_so) short lent
 
     -- the record that it stands for is sound, for every call that wants kind 2
     long_told : first sound (ranking_given (long_of p) n m 0) ≡ done

@@ -30,13 +30,12 @@ pub fn by_short(
     ensures { (result ≡ judged_or_short loopbytes.now certificate.now rank.old)
         × (rank.new ≡ ranked_or_short loopbytes.now certificate.now rank.old) }
 {
-    let fault = record_short_check::check_short(certificate, n, m);
-    if fault.number != 0 {
+    if let Err(fault) = record_short_check::check_short(certificate, n, m) {
         return judge::refused(2, fault.number, fault.place);
     }
     let mut long = [0u8; 262];
     record_short_write::lengthen_into(certificate, m, &mut long);
-    judge::judge_ranked(loopbytes, n, m, &long[..6 + 4 * m], 2, 0, rank)
+    judge::ranking_sound(loopbytes, n, m, &long[..6 + 4 * m], rank)
 }
 
 // Judges a certificate for a loop record that has been checked.
