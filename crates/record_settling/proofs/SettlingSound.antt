@@ -1,5 +1,5 @@
 -- What a sound record of kind 8 says: its kind, how long it is, and that every number is in range. A judge needs no more of the bytes.
-use mathlib.Core.Path.{◌≡◌, refl}
+use mathlib.Core.Path.{◌≡◌}
 use Prim.Native.Nat.{ℕ, ◌+◌, ◌*◌, ◌≤◌}
 use mathlib.Core.Bool.{true}
 use mathlib.Core.List.{List}
@@ -8,8 +8,7 @@ use lib.ListN.{length, drop}
 use borrow.Author.Tests.{leb-true, eqb-true}
 use Rattle.endian.specs.Numbers.{little_at}
 use Rattle.refusal.specs.Tests.{done, first}
-use Rattle.refusal.proofs.FaultLaws.{Named}
-use Rattle.refusal.proofs.TestLaws.{Passes, done_passes, zero_done}
+use Rattle.refusal.proofs.TestLaws.{Passes, done_passes}
 use Rattle.record.specs.Fields.{values, in_range}
 use Rattle.record.specs.Readers.{stated_length, kind_number}
 use Rattle.record_paths.specs.PathFields.{bytes_alone, is_kind, is_long, fields_fit}
@@ -35,8 +34,3 @@ module _ (n m : ℕ) (bytes : List ℕ) where
 
   pub settling_sound : first (sound_settling n m) (bytes_alone bytes) ≡ done → SettlingSound n m bytes
   settling_sound told = settling_says (done_passes (sound_settling n m) (bytes_alone bytes) told)
-
-  -- 0 is told of a sound record alone
-  pub settling_record_named : Named (first (sound_settling n m) (bytes_alone bytes))
-  unfolding sound_settling is_kind is_long fields_fit
-  settling_record_named = zero_done (sound_settling n m) (bytes_alone bytes) refl

@@ -6,14 +6,12 @@ use native.Mathlib.Omega.{arith}
 use lib.ListN.{length, drop}
 use borrow.Author.Tests.{eq-eqb, ne_eqb}
 use Rattle.endian.specs.Numbers.{little_at}
-use Rattle.refusal.specs.Faults.{fault_of}
 use Rattle.refusal.specs.Tests.{refused, first}
 use Rattle.refusal.proofs.TestLaws.{passed, failed}
 use Rattle.record.specs.Readers.{stated_length, kind_number}
 use Rattle.record_fields.specs.Runs.{fault}
-use Rattle.record_check.specs.Checks.{Framed}
+use Rattle.record_check.specs.Checks.{Framed, ended}
 use Rattle.record_paths.specs.PathFields.{bytes_alone, is_kind, is_long, fields_fit}
-use Rattle.record_paths_check.specs.PathChecks.{ended}
 use Rattle.record_paths_check.proofs.OrderWays.{past_frame, ends_so}
 use Rattle.record_settling.specs.SettlingRecords.{settling_fields, settling_length, sound_settling}
 use Rattle.record_settling.proofs.SettlingValues.{widths_settling}
@@ -43,7 +41,7 @@ module _ (bytes : List ℕ) (n m : ℕ) (f : Framed bytes) where
         of_kind ∙ failed _ _ _ _ (bytes_alone bytes) (ne_eqb _ _ other)
 
     pub values_told : length bytes ≡ 16 + 2 * n + 6 * m → (at : ℕ) → at ≡ fault (settling_fields n m) bytes 6
-        → ended at (length bytes) ≡ fault_of (first (sound_settling n m) (bytes_alone bytes))
+        → first (sound_settling n m) (bytes_alone bytes) ≡ ended at (length bytes)
     unfolding sound_settling is_long stated_length bytes_alone fields_fit settling_length
     values_told long at told =
         let same : little_at 4 bytes 0 ≡ 12 + 2 * n + 6 * m = omega (arith, f.whole, long) in

@@ -3,13 +3,13 @@
 #![tactic(auto)]
 
 ghost use Rattle.std.specs.Prelude.{◌+◌, ◌*◌, ◌≤◌, ◌≡◌, length};
-ghost use Rattle.refusal.specs.Faults.{fault_of};
+ghost use Rattle.refusal.specs.Faults.{result_of};
 ghost use Rattle.refusal.specs.Tests.{first};
 ghost use Rattle.record_fields.specs.Runs.{fault};
 ghost use Rattle.record_paths.specs.PathFields.{bytes_alone};
 ghost use Rattle.record_settling.specs.SettlingRecords.{settling_fields, sound_settling};
 
-use refusal::Fault;
+use refusal::{Fault, refused};
 
 // Where the values have their first number out of range: g and t are a linear part, k and all multipliers one of weights.
 fn settling_fault(bytes: &[u8], n: usize, m: usize) -> usize
@@ -25,20 +25,17 @@ fn settling_fault(bytes: &[u8], n: usize, m: usize) -> usize
 }
 
 // Whether bytes are a sound record of kind 8.
-pub fn check_settling(bytes: &[u8], n: usize, m: usize) -> Fault
+pub fn check_settling(bytes: &[u8], n: usize, m: usize) -> Result<(), Fault>
     requires { (n ≤ 16) × (m ≤ 64) }
-    ensures { result ≡ fault_of (first (sound_settling n m) (bytes_alone bytes.now)) }
+    ensures { result ≡ result_of (first (sound_settling n m) (bytes_alone bytes.now)) tt }
 {
-    let head = record_check::frame(bytes);
-    if head.number != 0 {
-        return record_paths_check::told(head.number, head.place);
-    }
+    record_check::frame(bytes)?;
     if endian::u16_at(bytes, 4) != 8 {
-        return record_paths_check::told(4, 4);
+        return refused(4, 4);
     }
     let end = bytes.len();
     if end != 16 + 2 * n + 6 * m {
-        return record_paths_check::told(3, 0);
+        return refused(3, 0);
     }
-    record_paths_check::ends(settling_fault(bytes, n, m), end)
+    record_check::ends(settling_fault(bytes, n, m), end)
 }
