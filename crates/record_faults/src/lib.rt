@@ -1,20 +1,24 @@
-// Where the numbers of a body are out of range. Each run of equal fields has two loops, which test the bytes where they stand, one
-// comparison a field: one says whether all are in range, several at a time; the other tells the place of the first that is not. A short
-// run of multipliers is walked by the second alone.
+// Where the numbers of a body are out of range. A run of equal fields has two loops, which test the bytes where they stand, one
+// comparison a field: one says whether all are in range, several at a time; the other tells the first that is not. A short run of
+// multipliers is walked by the second alone.
 #![tactic(auto)]
 
-ghost use Rattle.std.specs.Prelude.{◌+◌, ◌*◌, ◌≤◌, ◌≡◌, ◌&&◌, [], ◌++◌, ◌∷◌, pos, length, replicate};
-ghost use Rattle.record.specs.Layouts.{entry, right_side, multiplier, scale, direction, rows_of};
+ghost use Rattle.std.specs.Prelude.{ℕ, ℤ, ◌+◌, ◌*◌, ◌≤◌, ◌≡◌, ◌&&◌, [], ◌++◌, ◌∷◌, pos, neg_ℤ, length, replicate};
+ghost use Rattle.refusal.specs.Faults.{result_of};
+ghost use Rattle.record.specs.Fields.{Field, width};
+ghost use Rattle.record.specs.Layouts.{row_count, entry, right_side, multiplier, scale, direction, rows_of};
 ghost use Rattle.record.specs.Ranges.{◌to◌, variables, rows, within};
-ghost use Rattle.record_fields.specs.Runs.{fits, all_fit, fault, linear, weights};
-ghost use Rattle.record_faults.specs.RunsOf.{field_of, wide_of};
+ghost use Rattle.record_fields.specs.Runs.{fits, all_fit, run_told, linear, weights};
+ghost use Rattle.record_fields.proofs.FieldBounds.{row_count_wide, row_count_range, entry_wide, entry_range, right_side_wide, right_side_range, multiplier_wide, multiplier_range, scale_wide, scale_range, direction_wide, direction_range};
 
-// ---- one field
+use refusal::Fault;
+
+// ---- numbers
 
 pub fn between(x: usize, least: usize, most: usize) -> bool
     ensures { result ≡ within (least to most) (pos x) }
 {
-    least <= x && x <= most
+    (least..=most).contains(&x)
 }
 
 // n is a count of variables.
@@ -38,260 +42,300 @@ pub fn arguments_fit(n: usize, m: usize) -> bool
     variables_fit(n) && rows_fit(m)
 }
 
-fn entry_fits(bytes: &[u8], place: usize) -> bool
-    requires { place + 2 ≤ length bytes.now }
-    ensures { result ≡ fits entry bytes.now place }
-{
-    (endian::u16_at(bytes, place) + 30000) % 65536 <= 60000
+// ---- fields
+
+// A field of a body: the bytes that it takes, its range, and whether the number at a place of bytes is in it.
+pub trait BodyField {
+    const WIDE: usize;
+
+    const LEAST: i64;
+
+    const MOST: i64;
+
+    ghost WIDE: { ℕ };
+
+    ghost LEAST: { ℤ };
+
+    ghost MOST: { ℤ };
+
+    ghost field: { Field };
+
+    fn fits(bytes: &[u8], place: usize) -> bool
+        requires { place + WIDE ≤ length bytes.now }
+        ensures { result ≡ fits field bytes.now place };
+
+    ghost wide: { width field.form ≡ WIDE };
+
+    ghost range: { field.range ≡ record { least = LEAST; most = MOST } };
 }
 
-fn right_side_fits(bytes: &[u8], place: usize) -> bool
-    requires { place + 4 ≤ length bytes.now }
-    ensures { result ≡ fits right_side bytes.now place }
-{
-    (endian::u32_at(bytes, place) + 2000000000) % 4294967296 <= 4000000000
+// m, ms
+pub struct RowCount;
+
+// An entry of A, A', B, B' or s.
+pub struct Entry;
+
+// b, d, s0
+pub struct RightSide;
+
+// An entry of Y, Z, T, H; h0.
+pub struct Multiplier;
+
+// k, k2, q
+pub struct Scale;
+
+// An entry of U, V, W.
+pub struct Direction;
+
+impl BodyField for RowCount {
+    const WIDE: usize = 2;
+
+    const LEAST: i64 = 0;
+
+    const MOST: i64 = 64;
+
+    ghost WIDE = { 2 };
+
+    ghost LEAST = { pos 0 };
+
+    ghost MOST = { pos 64 };
+
+    ghost field = { row_count };
+
+    ghost wide = { row_count_wide };
+
+    ghost range = { row_count_range };
+
+    fn fits(bytes: &[u8], place: usize) -> bool {
+        rows_fit(endian::u16_at(bytes, place))
+    }
 }
 
-fn direction_fits(bytes: &[u8], place: usize) -> bool
-    requires { place + 4 ≤ length bytes.now }
-    ensures { result ≡ fits direction bytes.now place }
-{
-    (endian::u32_at(bytes, place) + 60000) % 4294967296 <= 120000
+impl BodyField for Entry {
+    const WIDE: usize = 2;
+
+    const LEAST: i64 = -30000;
+
+    const MOST: i64 = 30000;
+
+    ghost WIDE = { 2 };
+
+    ghost LEAST = { neg_ℤ (pos 30000) };
+
+    ghost MOST = { pos 30000 };
+
+    ghost field = { entry };
+
+    ghost wide = { entry_wide };
+
+    ghost range = { entry_range };
+
+    fn fits(bytes: &[u8], place: usize) -> bool {
+        (endian::u16_at(bytes, place) + 30000) % 65536 <= 60000
+    }
 }
 
-fn multiplier_fits(bytes: &[u8], place: usize) -> bool
-    requires { place + 2 ≤ length bytes.now }
-    ensures { result ≡ fits multiplier bytes.now place }
-{
-    between(endian::u16_at(bytes, place), 0, 60000)
+impl BodyField for RightSide {
+    const WIDE: usize = 4;
+
+    const LEAST: i64 = -2000000000;
+
+    const MOST: i64 = 2000000000;
+
+    ghost WIDE = { 4 };
+
+    ghost LEAST = { neg_ℤ (pos 2000000000) };
+
+    ghost MOST = { pos 2000000000 };
+
+    ghost field = { right_side };
+
+    ghost wide = { right_side_wide };
+
+    ghost range = { right_side_range };
+
+    fn fits(bytes: &[u8], place: usize) -> bool {
+        (endian::u32_at(bytes, place) + 2000000000) % 4294967296 <= 4000000000
+    }
 }
 
-fn scale_fits(bytes: &[u8], place: usize) -> bool
-    requires { place + 2 ≤ length bytes.now }
-    ensures { result ≡ fits scale bytes.now place }
-{
-    between(endian::u16_at(bytes, place), 1, 60000)
+impl BodyField for Multiplier {
+    const WIDE: usize = 2;
+
+    const LEAST: i64 = 0;
+
+    const MOST: i64 = 60000;
+
+    ghost WIDE = { 2 };
+
+    ghost LEAST = { pos 0 };
+
+    ghost MOST = { pos 60000 };
+
+    ghost field = { multiplier };
+
+    ghost wide = { multiplier_wide };
+
+    ghost range = { multiplier_range };
+
+    fn fits(bytes: &[u8], place: usize) -> bool {
+        between(endian::u16_at(bytes, place), 0, 60000)
+    }
 }
 
-// ---- runs: whether all is in range. These loops go to the end whatever they meet, so that the compiler tests several fields at once
+impl BodyField for Scale {
+    const WIDE: usize = 2;
 
-fn entries_fit(bytes: &[u8], place: usize, count: usize) -> bool
-    requires { place + count * 2 ≤ length bytes.now }
-    ensures { result ≡ all_fit entry bytes.now place count }
+    const LEAST: i64 = 1;
+
+    const MOST: i64 = 60000;
+
+    ghost WIDE = { 2 };
+
+    ghost LEAST = { pos 1 };
+
+    ghost MOST = { pos 60000 };
+
+    ghost field = { scale };
+
+    ghost wide = { scale_wide };
+
+    ghost range = { scale_range };
+
+    fn fits(bytes: &[u8], place: usize) -> bool {
+        between(endian::u16_at(bytes, place), 1, 60000)
+    }
+}
+
+impl BodyField for Direction {
+    const WIDE: usize = 4;
+
+    const LEAST: i64 = -60000;
+
+    const MOST: i64 = 60000;
+
+    ghost WIDE = { 4 };
+
+    ghost LEAST = { neg_ℤ (pos 60000) };
+
+    ghost MOST = { pos 60000 };
+
+    ghost field = { direction };
+
+    ghost wide = { direction_wide };
+
+    ghost range = { direction_range };
+
+    fn fits(bytes: &[u8], place: usize) -> bool {
+        (endian::u32_at(bytes, place) + 60000) % 4294967296 <= 120000
+    }
+}
+
+// ---- runs of equal fields
+
+// One field.
+pub fn field_fault<F: BodyField>(bytes: &[u8], place: usize) -> Result<(), Fault>
+    requires { place + F.WIDE ≤ length bytes.now }
+    ensures { result ≡ result_of (run_told (F.field ∷ []) bytes.now place) tt }
+{
+    if F::fits(bytes, place) {
+        Ok(())
+    } else {
+        refusal::refused(6, place)
+    }
+}
+
+// Whether all is in range. It goes to the end whatever it meets, so that the compiler tests several fields at once.
+fn run_fits<F: BodyField>(bytes: &[u8], place: usize, count: usize) -> bool
+    requires { place + count * F.WIDE ≤ length bytes.now }
+    ensures { result ≡ all_fit F.field bytes.now place count }
 {
     let mut all = true;
     for i in 0..count {
-        all = all & entry_fits(bytes, place + 2 * i);
+        all = all & F::fits(bytes, place + F::WIDE * i);
     }
     all
-}
-
-fn directions_fit(bytes: &[u8], place: usize, count: usize) -> bool
-    requires { place + count * 4 ≤ length bytes.now }
-    ensures { result ≡ all_fit direction bytes.now place count }
-{
-    let mut all = true;
-    for i in 0..count {
-        all = all & direction_fits(bytes, place + 4 * i);
-    }
-    all
-}
-
-fn multipliers_fit(bytes: &[u8], place: usize, count: usize) -> bool
-    requires { place + count * 2 ≤ length bytes.now }
-    ensures { result ≡ all_fit multiplier bytes.now place count }
-{
-    let mut all = true;
-    for i in 0..count {
-        all = all & multiplier_fits(bytes, place + 2 * i);
-    }
-    all
-}
-
-// ---- runs: where the first number out of range stands, or the end
-
-// The fields that stand in runs.
-#[derive(Clone, Copy)]
-enum RunOf {
-    Entries,
-    Directions,
-    Multipliers,
-}
-
-fn field_width(run: RunOf) -> usize
-    ensures { result ≡ wide_of run }
-{
-    match run {
-        RunOf::Entries => 2,
-        RunOf::Directions => 4,
-        RunOf::Multipliers => 2,
-    }
-}
-
-fn field_fits(bytes: &[u8], place: usize, run: RunOf) -> bool
-    requires { place + wide_of run ≤ length bytes.now }
-    ensures { result ≡ fits (field_of run) bytes.now place }
-{
-    match run {
-        RunOf::Entries => entry_fits(bytes, place),
-        RunOf::Directions => direction_fits(bytes, place),
-        RunOf::Multipliers => multiplier_fits(bytes, place),
-    }
 }
 
 // One field after another: of a run that has a fault, or of a short one.
-fn first_out(bytes: &[u8], place: usize, count: usize, run: RunOf) -> usize
-    requires { place + count * wide_of run ≤ length bytes.now }
-    ensures { result ≡ fault (replicate count (field_of run)) bytes.now place }
+fn first_fault<F: BodyField>(bytes: &[u8], place: usize, count: usize) -> Result<(), Fault>
+    requires { place + count * F.WIDE ≤ length bytes.now }
+    ensures { result ≡ result_of (run_told (replicate count F.field) bytes.now place) tt }
 {
-    let wide = field_width(run);
-    let mut at = place;
-    let mut left = count;
-    while 0 < left {
-        if !field_fits(bytes, at, run) {
-            return at;
-        }
-        at += wide;
-        left -= 1;
+    for i in 0..count {
+        field_fault::<F>(bytes, place + F::WIDE * i)?;
     }
-    at
+    Ok(())
 }
 
-fn entries_fault(bytes: &[u8], place: usize, count: usize) -> usize
-    requires { place + count * 2 ≤ length bytes.now }
-    ensures { result ≡ fault (replicate count entry) bytes.now place }
+pub fn run_fault<F: BodyField>(bytes: &[u8], place: usize, count: usize) -> Result<(), Fault>
+    requires { place + count * F.WIDE ≤ length bytes.now }
+    ensures { result ≡ result_of (run_told (replicate count F.field) bytes.now place) tt }
 {
-    if entries_fit(bytes, place, count) {
-        place + 2 * count
+    if run_fits::<F>(bytes, place, count) {
+        Ok(())
     } else {
-        first_out(bytes, place, count, RunOf::Entries)
-    }
-}
-
-pub fn directions_fault(bytes: &[u8], place: usize, count: usize) -> usize
-    requires { place + count * 4 ≤ length bytes.now }
-    ensures { result ≡ fault (replicate count direction) bytes.now place }
-{
-    if directions_fit(bytes, place, count) {
-        place + 4 * count
-    } else {
-        first_out(bytes, place, count, RunOf::Directions)
+        first_fault::<F>(bytes, place, count)
     }
 }
 
 // Up to eight are walked at once: testing several at a time takes as long before the first is tested.
-pub fn multipliers_fault(bytes: &[u8], place: usize, count: usize) -> usize
+pub fn multipliers_fault(bytes: &[u8], place: usize, count: usize) -> Result<(), Fault>
     requires { place + count * 2 ≤ length bytes.now }
-    ensures { result ≡ fault (replicate count multiplier) bytes.now place }
+    ensures { result ≡ result_of (run_told (replicate count multiplier) bytes.now place) tt }
 {
     if count <= 8 {
-        return first_out(bytes, place, count, RunOf::Multipliers);
-    }
-    if multipliers_fit(bytes, place, count) {
-        place + 2 * count
+        first_fault::<Multiplier>(bytes, place, count)
     } else {
-        first_out(bytes, place, count, RunOf::Multipliers)
-    }
-}
-
-pub fn right_side_fault(bytes: &[u8], place: usize) -> usize
-    requires { place + 4 ≤ length bytes.now }
-    ensures { result ≡ fault (right_side ∷ []) bytes.now place }
-{
-    if right_side_fits(bytes, place) {
-        place + 4
-    } else {
-        place
-    }
-}
-
-fn scale_fault(bytes: &[u8], place: usize) -> usize
-    requires { place + 2 ≤ length bytes.now }
-    ensures { result ≡ fault (scale ∷ []) bytes.now place }
-{
-    if scale_fits(bytes, place) {
-        place + 2
-    } else {
-        place
+        run_fault::<Multiplier>(bytes, place, count)
     }
 }
 
 // ---- parts of a body
 
-pub fn linear_fault(bytes: &[u8], place: usize, count: usize) -> usize
+pub fn linear_fault(bytes: &[u8], place: usize, count: usize) -> Result<(), Fault>
     requires { place + (2 * count + 4) ≤ length bytes.now }
-    ensures { result ≡ fault (linear count) bytes.now place }
+    ensures { result ≡ result_of (run_told (linear count) bytes.now place) tt }
 {
-    let right = place + 2 * count;
-    let at = entries_fault(bytes, place, count);
-    if at < right {
-        return at;
-    }
-    right_side_fault(bytes, right)
+    run_fault::<Entry>(bytes, place, count)?;
+    field_fault::<RightSide>(bytes, place + 2 * count)
 }
 
-pub fn weights_fault(bytes: &[u8], place: usize, count: usize) -> usize
+pub fn weights_fault(bytes: &[u8], place: usize, count: usize) -> Result<(), Fault>
     requires { place + (2 + 2 * count) ≤ length bytes.now }
-    ensures { result ≡ fault (weights count) bytes.now place }
+    ensures { result ≡ result_of (run_told (weights count) bytes.now place) tt }
 {
-    let first = place + 2;
-    let at = scale_fault(bytes, place);
-    if at < first {
-        return at;
-    }
-    multipliers_fault(bytes, first, count)
+    field_fault::<Scale>(bytes, place)?;
+    multipliers_fault(bytes, place + 2, count)
 }
 
-pub fn rows_fault(bytes: &[u8], place: usize, n: usize, count: usize) -> usize
+pub fn rows_fault(bytes: &[u8], place: usize, n: usize, count: usize) -> Result<(), Fault>
     requires { place + count * (4 * n + 4) ≤ length bytes.now }
-    ensures { result ≡ fault (rows_of n count) bytes.now place }
+    ensures { result ≡ result_of (run_told (rows_of n count) bytes.now place) tt }
 {
-    let mut at = place;
-    let mut left = count;
-    while 0 < left {
-        if !entries_fit(bytes, at, 2 * n) {
-            return first_out(bytes, at, 2 * n, RunOf::Entries);
-        }
-        let right = at + 4 * n;
-        if !right_side_fits(bytes, right) {
-            return right;
-        }
-        at = right + 4;
-        left -= 1;
+    for i in 0..count {
+        linear_fault(bytes, place + (4 * n + 4) * i, 2 * n)?;
     }
-    at
+    Ok(())
 }
 
-pub fn exclusion_fault(bytes: &[u8], place: usize, n: usize) -> usize
+pub fn exclusion_fault(bytes: &[u8], place: usize, n: usize) -> Result<(), Fault>
     requires { place + (2 + 12 * n) ≤ length bytes.now }
-    ensures { result ≡ fault ((scale ∷ []) ++ replicate (3 * n) direction) bytes.now place }
+    ensures { result ≡ result_of (run_told ((scale ∷ []) ++ replicate (3 * n) direction) bytes.now place) tt }
 {
-    let first = place + 2;
-    let at = scale_fault(bytes, place);
-    if at < first {
-        return at;
-    }
-    directions_fault(bytes, first, 3 * n)
+    field_fault::<Scale>(bytes, place)?;
+    run_fault::<Direction>(bytes, place + 2, 3 * n)
 }
 
-pub fn lasso_fault(bytes: &[u8], place: usize, n: usize, m: usize, ms: usize) -> usize
+pub fn lasso_fault(bytes: &[u8], place: usize, n: usize, m: usize, ms: usize) -> Result<(), Fault>
     requires { place + (ms * (4 * n + 4) + (2 * n + 4 + (2 + 2 * ms + (2 + 2 * (3 * m + 3))))) ≤ length bytes.now }
-    ensures { result ≡ fault (rows_of n ms ++ (linear n ++ (weights ms ++ weights (3 * m + 3)))) bytes.now place }
+    ensures { result ≡ result_of (run_told (rows_of n ms ++ (linear n ++ (weights ms ++ weights (3 * m + 3)))) bytes.now place) tt }
 {
     let invariant = place + ms * (4 * n + 4);
-    let at = rows_fault(bytes, place, n, ms);
-    if at < invariant {
-        return at;
-    }
     let start = invariant + (2 * n + 4);
-    let at = linear_fault(bytes, invariant, n);
-    if at < start {
-        return at;
-    }
     let kept = start + (2 + 2 * ms);
-    let at = weights_fault(bytes, start, ms);
-    if at < kept {
-        return at;
-    }
+    rows_fault(bytes, place, n, ms)?;
+    linear_fault(bytes, invariant, n)?;
+    weights_fault(bytes, start, ms)?;
     weights_fault(bytes, kept, 3 * m + 3)
 }

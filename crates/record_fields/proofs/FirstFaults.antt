@@ -14,7 +14,7 @@ use Rattle.record.specs.Ranges.{within}
 use Rattle.record.proofs.FieldLaws.{length_values, values_append}
 use Rattle.record_fields.specs.Runs.{field_number_at, fits, fault}
 
-width_some : (f : Form) → 0 < width f
+pub width_some : (f : Form) → 0 < width f
 unfolding width
 width_some u16 = omega arith
 width_some i16 = omega arith
@@ -131,6 +131,10 @@ module _ (bytes : List ℕ) where
   pub fault_all : (fs : List Field) (place : ℕ) → in_range fs (values fs (drop place bytes)) ≡ true → fault fs bytes place ≡ place + widths fs
   unfolding fault
   fault_all fs place h = ap (λ k. place + k) (before_all fs (values fs (drop place bytes)) (omega (arith, length_values fs (drop place bytes))) h)
+
+  pub fault_some : (fs : List Field) (place : ℕ) → in_range fs (values fs (drop place bytes)) ≡ false → fault fs bytes place < place + widths fs
+  unfolding fault
+  fault_some fs place h = omega (arith, before_some fs (values fs (drop place bytes)) h)
 
   pub all_fit : (fs : List Field) (place : ℕ) → fault fs bytes place ≡ place + widths fs → in_range fs (values fs (drop place bytes)) ≡ true
   unfolding fault

@@ -1,3 +1,4 @@
+pub mod FieldBounds
 pub mod FirstFaults
 pub mod StoredInRange
 pub mod Walks
@@ -6,4 +7,6 @@ pub mod Copies
 pub mod Forms
 pub mod Readings
 pub mod ListFaults
+pub mod ToldFaults
+pub mod ToldParts
 pub mod Stores

@@ -12,8 +12,8 @@ use borrow.Author.Tests.{le-leb, lt-leb}
 use Rattle.endian.specs.Numbers.{little_at, signed}
 use Rattle.endian.proofs.Laws.{signed_low, signed_high}
 use Rattle.record.specs.Fields.{width, number}
-use Rattle.record.specs.Layouts.{entry, right_side, multiplier, scale, direction}
-use Rattle.record.specs.Ranges.{◌to◌, either_way, entries, right_sides, multipliers, scales, directions, within}
+use Rattle.record.specs.Layouts.{row_count, entry, right_side, multiplier, scale, direction}
+use Rattle.record.specs.Ranges.{◌to◌, either_way, rows, entries, right_sides, multipliers, scales, directions, within}
 use Rattle.record_fields.specs.Runs.{field_number_at, fits}
 
 -- two comparisons that hold together
@@ -72,3 +72,7 @@ module _ (bytes : List ℕ) (place x : ℕ) where
   pub scale_fits : x ≡ little_at 2 bytes place → within (1 to 60000) (pos x) ≡ fits scale bytes place
   unfolding fits field_number_at number width scale scales little_at
   scale_fits read = rw (← read)
+
+  pub row_count_fits : x ≡ little_at 2 bytes place → within rows (pos x) ≡ fits row_count bytes place
+  unfolding fits field_number_at number width row_count little_at
+  row_count_fits read = rw (← read)

@@ -1,7 +1,8 @@
 -- A body is a handful of runs of equal fields. Here: whether a field at a place of bytes is in range, where fields have their first
--- number out of range, what numbers a run has, and how many values a record has.
-use Rattle.std.specs.Prelude.{ℕ, zero, suc, ◌+◌, ◌*◌, Bool, true, ◌&&◌, List, [], ◌∷◌, ◌++◌, ℤ, take, drop, replicate}
-use Rattle.record.specs.Fields.{Form, width, number, stored, holds, Field, values, before_fault}
+-- number out of range and what they tell, what numbers a run has, and how many values a record has.
+use Rattle.std.specs.Prelude.{ℕ, zero, suc, ◌+◌, ◌*◌, Bool, true, cond, ◌&&◌, List, [], ◌∷◌, ◌++◌, ltb, ℤ, take, drop, replicate}
+use Rattle.refusal.specs.Tests.{Told, done, refused}
+use Rattle.record.specs.Fields.{Form, width, number, stored, holds, Field, widths, values, before_fault}
 use Rattle.record.specs.Layouts.{Kind, loop, ranking, exclusion, lasso, other, Counts, entry, right_side, multiplier, scale}
 use Rattle.record.specs.Ranges.{within}
 
@@ -16,6 +17,14 @@ fits f bytes place = within f.range (field_number_at f bytes place)
 -- where fields, the first of them at a place, have their first number out of range; where they end, if there is none
 unfoldable pub fault : List Field → List ℕ → ℕ → ℕ
 fault fs bytes place = place + before_fault fs (values fs (drop place bytes))
+
+-- what a fault before an end tells: refusal 6 at it. A fault at the end is none
+unfoldable pub fault_told : ℕ → ℕ → Told
+fault_told fault end = cond (ltb fault end) (refused 6 fault) done
+
+-- what fields tell, the first of them at a place
+unfoldable pub run_told : List Field → List ℕ → ℕ → Told
+run_told fs bytes place = fault_told (fault fs bytes place) (place + widths fs)
 
 -- each of a run of equal fields, the first of them at a place, is in range
 unfoldable pub all_fit : Field → List ℕ → ℕ → ℕ → Bool
@@ -51,6 +60,10 @@ numbers form (suc count) bytes = number form (take (width form) bytes) ∷ numbe
 -- where they end, if there is none
 unfoldable pub list_fault : List Field → List ℤ → ℕ → ℕ → ℕ
 list_fault fs zs index place = place + before_fault fs (drop index zs)
+
+-- what they tell
+unfoldable pub list_told : List Field → List ℤ → ℕ → ℕ → Told
+list_told fs zs index place = fault_told (list_fault fs zs index place) (place + widths fs)
 
 -- the bytes of a run of values of a form
 unfoldable pub stores : Form → ℕ → List ℤ → List ℕ

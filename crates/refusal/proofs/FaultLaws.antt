@@ -67,3 +67,15 @@ pub went_on : {A B : Type 0} (t : Told) (a x : A) (b : B) → Ok x ≡ result_of
 unfolding result_of
 went_on done a x b h = refl
 went_on (refused k p) a x b h = cc
+
+-- an order in two parts: what the first gave leaves the second to speak, and a refusal of the first is the whole's
+module _ {A B : Type 0} where
+  pub gives_then : (t u : Told) (x a : A) (b : B) → Ok x ≡ result_of t a → result_of u b ≡ result_of (t then u) b
+  unfolding result_of ◌then◌
+  gives_then done u x a b h = refl
+  gives_then (refused k p) u x a b h = cc
+
+  pub refuses_then : (t u : Told) (f : Fault) (a : A) (b : B) → Err f ≡ result_of t a → Err f ≡ result_of (t then u) b
+  unfolding result_of ◌then◌
+  refuses_then done u f a b h = cc
+  refuses_then (refused k p) u f a b h = cc

@@ -1,2 +1,0 @@
--- the fields that a run is of
-pub mod RunsOf
