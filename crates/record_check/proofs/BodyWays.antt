@@ -16,9 +16,9 @@ use Rattle.record.specs.Layouts.{is_known, counts, length_of}
 use Rattle.record.specs.Ranges.{within}
 use Rattle.record.specs.Readers.{Reader, framing, stated_length, kind, counts_read, fields, list_start, count_list, list, arguments_fit, sound}
 use Rattle.record.proofs.Lengths.{length_law}
-use Rattle.record_fields.specs.Runs.{field_number_at, fits, fault}
+use Rattle.record_fields.specs.Runs.{field_number_at, fits, fault, fault_told, run_told}
 use Rattle.record_fields.proofs.FirstFaults.{all_fit, not_all_fit, fault_within}
-use Rattle.record_check.specs.Checks.{checks, Framed, ended}
+use Rattle.record_check.specs.Checks.{checks, Framed}
 use Rattle.record_check.proofs.FrameWays.{refusal, says}
 
 module _ (r : Reader) (f : Framed r.bytes) where
@@ -80,23 +80,18 @@ module _ (r : Reader) (f : Framed r.bytes) where
                 let same : stated_length r ≡ length_of (kind r) (counts_read r) = omega (arith, f.whole) in
                 past_counts ∙ passed _ _ _ _ r (eq-eqb _ _ same)
 
-            -- the values end where the record ends
-            end : list_start r + widths (fields r) ≡ length r.bytes
-            unfolding list_start fields
-            end = omega (arith, formula, length_law (kind r) (counts_read r) known)
-
-            -- the last test
-            pub values_told : first sound r ≡ ended (fault (fields r) r.bytes (list_start r)) (length r.bytes)
-            unfolding ended sound list fault
+            -- the last test: what the values tell
+            pub values_told : first sound r ≡ run_told (fields r) r.bytes (list_start r)
+            unfolding sound list fault run_told fault_told
             values_told =
-                elim (dec_lt (fault (fields r) r.bytes (list_start r)) (length r.bytes)) [
+                elim (dec_lt (fault (fields r) r.bytes (list_start r)) (list_start r + widths (fields r))) [
                   | yes early ↦
-                      let out = not_all_fit r.bytes (fields r) (list_start r) (omega (arith, end)) in
-                      rw (lt-ltb (fault (fields r) r.bytes (list_start r)) (length r.bytes) early) (past_length ∙ failed _ _ _ _ r out)
+                      let out = not_all_fit r.bytes (fields r) (list_start r) early in
+                      rw (lt-ltb (fault (fields r) r.bytes (list_start r)) (list_start r + widths (fields r)) early) (past_length ∙ failed _ _ _ _ r out)
                   | no late ↦
-                      let all = all_fit r.bytes (fields r) (list_start r) (omega (arith, end, fault_within r.bytes (fields r) (list_start r))) in
-                      let l : length r.bytes ≤ fault (fields r) r.bytes (list_start r) = omega arith in
-                      rw (le-ltb (fault (fields r) r.bytes (list_start r)) (length r.bytes) l) (past_length ∙ passed _ _ _ _ r all ∙ passes_done [] r tt)
+                      let all = all_fit r.bytes (fields r) (list_start r) (omega (arith, fault_within r.bytes (fields r) (list_start r))) in
+                      let l : list_start r + widths (fields r) ≤ fault (fields r) r.bytes (list_start r) = omega arith in
+                      rw (le-ltb (fault (fields r) r.bytes (list_start r)) (list_start r + widths (fields r)) l) (past_length ∙ passed _ _ _ _ r all ∙ passes_done [] r tt)
                 ]
 
 -- ---- counts in the bytes

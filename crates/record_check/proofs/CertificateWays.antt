@@ -18,9 +18,9 @@ use Rattle.record.specs.Ranges.{variables, rows, within}
 use Rattle.record.specs.Readers.{Reader, kind_number, kind, counts_read, fields, list_start, arguments_fit, sound}
 use Rattle.record.specs.Wants.{wants_of}
 use Rattle.record.proofs.KindLaws.{wanted_no_loop, wanted_known}
-use Rattle.record_fields.specs.Runs.{fault}
+use Rattle.record_fields.specs.Runs.{fault, run_told}
 use Rattle.record_fields.proofs.FirstFaults.{fault_none}
-use Rattle.record_check.specs.Checks.{said, checks, certificate_check, Framed, ended}
+use Rattle.record_check.specs.Checks.{said, checks, certificate_check, Framed}
 use Rattle.record_check.proofs.FrameWays.{stopped, right, refusal}
 use Rattle.record_check.proofs.BodyWays.{unwanted, bad_arguments, bad_length, values_told}
 
@@ -68,27 +68,26 @@ module _ (wanted : Wanted) (bytes : List ℕ) (n m : ℕ) (f : Framed bytes) whe
       plain_length h =
           bad_length certificate f certificate_wanted (argued true fit) plain_there plain_counts (λ e. h (rw (kind_is, plain_read) at e))
 
-      plain_list : fault (fields certificate) bytes (list_start certificate) ≡ fault (layout k (record { n = n; m = m; ms = 0 })) bytes 6
+      plain_list : run_told (fields certificate) bytes (list_start certificate) ≡ run_told (layout k (record { n = n; m = m; ms = 0 })) bytes 6
       unfolding fields list_start listed ahead widths
       plain_list = rw (kind_is, plain_read, wanted_no_loop wanted k known, plain)
 
-      module _ (formula : length bytes ≡ 4 + length_of k (record { n = n; m = m; ms = 0 })) (at : ℕ)
-          (told : at ≡ fault (layout k (record { n = n; m = m; ms = 0 })) bytes 6) where
-        plain_told : first sound certificate ≡ ended at (length bytes)
+      module _ (formula : length bytes ≡ 4 + length_of k (record { n = n; m = m; ms = 0 })) where
+        plain_told : first sound certificate ≡ run_told (layout k (record { n = n; m = m; ms = 0 })) bytes 6
         unfolding certificate_check certificate
         plain_told =
-            rw (told, ← plain_list)
+            rw (← plain_list)
             (values_told certificate f certificate_wanted (argued true fit) plain_there plain_counts (rw (kind_is, plain_read) formula) (rw kind_is (wanted_known wanted k known)))
 
         plain_said : said certificate ≡ record { kind = little_at 2 bytes 4; n = n; m = m; ms = 0 }
         unfolding said certificate_check certificate kind_number
         plain_said = rw plain_read
 
-        pub plain_out : (e : Fault) → stopped e ≡ result_of (ended at (length bytes)) tt → Err e ≡ checks (certificate_check wanted bytes n m)
+        pub plain_out : (e : Fault) → stopped e ≡ result_of (run_told (layout k (record { n = n; m = m; ms = 0 })) bytes 6) tt → Err e ≡ checks (certificate_check wanted bytes n m)
         unfolding checks certificate
-        plain_out e h = rw plain_told (handed_on (ended at (length bytes)) tt (said certificate) e h)
+        plain_out e h = rw plain_told (handed_on (run_told (layout k (record { n = n; m = m; ms = 0 })) bytes 6) tt (said certificate) e h)
 
-        pub plain_sound : right ≡ result_of (ended at (length bytes)) tt
+        pub plain_sound : right ≡ result_of (run_told (layout k (record { n = n; m = m; ms = 0 })) bytes 6) tt
             → Ok (record { kind = little_at 2 bytes 4; n = n; m = m; ms = 0 }) ≡ checks (certificate_check wanted bytes n m)
         unfolding checks certificate
-        plain_sound h = rw (plain_told, plain_said) (went_on (ended at (length bytes)) tt tt _ h)
+        plain_sound h = rw (plain_told, plain_said) (went_on (run_told (layout k (record { n = n; m = m; ms = 0 })) bytes 6) tt tt _ h)

@@ -18,9 +18,10 @@ use Rattle.record.specs.Layouts.{lasso, kind_of, is_loop, is_lasso, is_known, ro
 use Rattle.record.specs.Ranges.{variables, rows, within}
 use Rattle.record.specs.Readers.{Reader, kind_number, kind, counts_read, fields, list_start, arguments_fit, sound}
 use Rattle.record.specs.Wants.{wants_of}
-use Rattle.record_fields.specs.Runs.{fits, fault}
+use Rattle.record_fields.specs.Runs.{fits, fault, run_told}
 use Rattle.record_fields.proofs.FirstFaults.{fault_none, fault_next, fault_here}
-use Rattle.record_check.specs.Checks.{said, checks, certificate_check, Framed, ended}
+use Rattle.record_fields.proofs.ToldFaults.{run_told-next}
+use Rattle.record_check.specs.Checks.{said, checks, certificate_check, Framed}
 use Rattle.record_check.proofs.FrameWays.{stopped, right, refusal}
 use Rattle.record_check.proofs.BodyWays.{no_counts, bad_count, bad_length, values_told, count_fits}
 
@@ -69,30 +70,29 @@ module _ (wanted : Wanted) (bytes : List ℕ) (n m : ℕ) (f : Framed bytes) (is
       unfolding counts_read is_loop is_lasso certificate_check certificate
       lasso_read = rw (lasso_kind, ms_read)
 
-      lasso_list : fault (fields certificate) bytes (list_start certificate) ≡ fault (layout lasso (record { n = n; m = m; ms = ms })) bytes 8
+      lasso_list : run_told (fields certificate) bytes (list_start certificate) ≡ run_told (layout lasso (record { n = n; m = m; ms = ms })) bytes 8
       unfolding fields list_start listed ahead counts is_loop widths width row_count
-      lasso_list = rw (lasso_kind, lasso_read) (fault_next bytes row_count (layout lasso (record { n = n; m = m; ms = ms })) 6 ms_in)
+      lasso_list = rw (lasso_kind, lasso_read) (run_told-next bytes row_count (layout lasso (record { n = n; m = m; ms = ms })) 6 ms_in)
 
       pub lasso_length : (length bytes ≡ 4 + length_of lasso (record { n = n; m = m; ms = ms }) → ⊥) → refusal 3 0 ≡ checks (certificate_check wanted bytes n m)
       unfolding certificate_check certificate
       lasso_length h = bad_length certificate f lasso_wanted lasso_arguments lasso_there lasso_counts (λ e. h (rw (lasso_kind, lasso_read) at e))
 
-      module _ (formula : length bytes ≡ 4 + length_of lasso (record { n = n; m = m; ms = ms })) (at : ℕ)
-          (told : at ≡ fault (layout lasso (record { n = n; m = m; ms = ms })) bytes 8) where
-        lasso_values : first sound certificate ≡ ended at (length bytes)
+      module _ (formula : length bytes ≡ 4 + length_of lasso (record { n = n; m = m; ms = ms })) where
+        lasso_values : first sound certificate ≡ run_told (layout lasso (record { n = n; m = m; ms = ms })) bytes 8
         unfolding certificate_check certificate is_known
         lasso_values =
-            rw (told, ← lasso_list)
+            rw (← lasso_list)
             (values_told certificate f lasso_wanted lasso_arguments lasso_there lasso_counts (rw (lasso_kind, lasso_read) formula) (rw lasso_kind))
 
         lasso_said : said certificate ≡ record { kind = 4; n = n; m = m; ms = ms }
         unfolding said certificate_check certificate kind_number
         lasso_said = rw (lasso_read, is)
 
-        pub lasso_out : (e : Fault) → stopped e ≡ result_of (ended at (length bytes)) tt → Err e ≡ checks (certificate_check wanted bytes n m)
+        pub lasso_out : (e : Fault) → stopped e ≡ result_of (run_told (layout lasso (record { n = n; m = m; ms = ms })) bytes 8) tt → Err e ≡ checks (certificate_check wanted bytes n m)
         unfolding checks certificate
-        lasso_out e h = rw lasso_values (handed_on (ended at (length bytes)) tt (said certificate) e h)
+        lasso_out e h = rw lasso_values (handed_on (run_told (layout lasso (record { n = n; m = m; ms = ms })) bytes 8) tt (said certificate) e h)
 
-        pub lasso_sound : right ≡ result_of (ended at (length bytes)) tt → Ok (record { kind = 4; n = n; m = m; ms = ms }) ≡ checks (certificate_check wanted bytes n m)
+        pub lasso_sound : right ≡ result_of (run_told (layout lasso (record { n = n; m = m; ms = ms })) bytes 8) tt → Ok (record { kind = 4; n = n; m = m; ms = ms }) ≡ checks (certificate_check wanted bytes n m)
         unfolding checks certificate
-        lasso_sound h = rw (lasso_values, lasso_said) (went_on (ended at (length bytes)) tt tt _ h)
+        lasso_sound h = rw (lasso_values, lasso_said) (went_on (run_told (layout lasso (record { n = n; m = m; ms = ms })) bytes 8) tt tt _ h)

@@ -17,9 +17,9 @@ use Rattle.record.specs.Layouts.{loop, kind_of, is_loop, is_lasso, variable_coun
 use Rattle.record.specs.Ranges.{variables, rows, within}
 use Rattle.record.specs.Readers.{Reader, kind_number, kind, counts_read, fields, list_start, arguments_fit, sound, loop_reader}
 use Rattle.record.proofs.KindLaws.{loop_known}
-use Rattle.record_fields.specs.Runs.{fault}
+use Rattle.record_fields.specs.Runs.{fault, run_told}
 use Rattle.record_fields.proofs.FirstFaults.{fault_none, fault_next, fault_here}
-use Rattle.record_check.specs.Checks.{said, checks, Framed, ended}
+use Rattle.record_check.specs.Checks.{said, checks, Framed}
 use Rattle.record_check.proofs.FrameWays.{stopped, right, refusal}
 use Rattle.record_check.proofs.BodyWays.{no_counts, bad_count, bad_length, values_told, count_fits}
 
@@ -82,25 +82,25 @@ module _ (bytes : List ℕ) (f : Framed bytes) (is : little_at 2 bytes 4 ≡ 1) 
         unfolding counts_read is_loop is_lasso loop_reader the_loop
         loop_read = rw (loop_kind, n_read, m_read)
 
-        loop_list : fault (fields the_loop) bytes (list_start the_loop) ≡ fault (rows_of n m) bytes 10
+        loop_list : run_told (fields the_loop) bytes (list_start the_loop) ≡ run_told (rows_of n m) bytes 10
         unfolding fields list_start listed ahead layout counts is_loop widths width variable_count row_count
         loop_list = rw (loop_kind, loop_read)
 
-        module _ (formula : length bytes ≡ 10 + m * (4 * n + 4)) (at : ℕ) (told : at ≡ fault (rows_of n m) bytes 10) where
-          loop_values : first sound the_loop ≡ ended at (length bytes)
+        module _ (formula : length bytes ≡ 10 + m * (4 * n + 4)) where
+          loop_values : first sound the_loop ≡ run_told (rows_of n m) bytes 10
           unfolding the_loop loop_reader
           loop_values =
-              rw (told, ← loop_list)
+              rw (← loop_list)
               (values_told the_loop f loop_wanted loop_arguments loop_there loop_counts (formula ∙ sym loop_formula) (loop_known _ loop_wanted))
 
           loop_said : said the_loop ≡ record { kind = 1; n = n; m = m; ms = 0 }
           unfolding said loop_reader the_loop kind_number
           loop_said = rw (loop_read, is)
 
-          pub loop_out : (e : Fault) → stopped e ≡ result_of (ended at (length bytes)) tt → Err e ≡ checks (loop_reader bytes [])
+          pub loop_out : (e : Fault) → stopped e ≡ result_of (run_told (rows_of n m) bytes 10) tt → Err e ≡ checks (loop_reader bytes [])
           unfolding checks loop_reader the_loop
-          loop_out e h = rw loop_values (handed_on (ended at (length bytes)) tt (said the_loop) e h)
+          loop_out e h = rw loop_values (handed_on (run_told (rows_of n m) bytes 10) tt (said the_loop) e h)
 
-          pub loop_sound : right ≡ result_of (ended at (length bytes)) tt → Ok (record { kind = 1; n = n; m = m; ms = 0 }) ≡ checks (loop_reader bytes [])
+          pub loop_sound : right ≡ result_of (run_told (rows_of n m) bytes 10) tt → Ok (record { kind = 1; n = n; m = m; ms = 0 }) ≡ checks (loop_reader bytes [])
           unfolding checks loop_reader the_loop
-          loop_sound h = rw (loop_values, loop_said) (went_on (ended at (length bytes)) tt tt _ h)
+          loop_sound h = rw (loop_values, loop_said) (went_on (run_told (rows_of n m) bytes 10) tt tt _ h)

@@ -1,10 +1,10 @@
 -- What a check answers: the tests `sound` of 01's order for a record, and what the record says of itself. No list is lent, so a check's
 -- reader has no room.
-use Rattle.std.specs.Prelude.{ℕ, ◌+◌, ◌≤◌, ◌≡◌, true, cond, ◌&&◌, List, ltb, pos, length, Result}
+use Rattle.std.specs.Prelude.{ℕ, ◌+◌, ◌≤◌, ◌≡◌, true, ◌&&◌, List, pos, length, Result}
 use Rattle.endian.specs.Numbers.{little_at}
 use Rattle.refusal.specs.declared.Fault.{Fault}
 use Rattle.refusal.specs.Faults.{result_of}
-use Rattle.refusal.specs.Tests.{Told, done, refused, first}
+use Rattle.refusal.specs.Tests.{first}
 use Rattle.record.specs.declared.Wanted.{Wanted}
 use Rattle.record.specs.Layouts.{Kind}
 use Rattle.record.specs.Ranges.{variables, rows, within}
@@ -39,7 +39,3 @@ pub record Opened (bytes : List ℕ) (number n m : ℕ) : Type 0 where
 -- what a check answers of a certificate of a kind, whatever else is wanted
 abbrev pub Answers : Kind → List ℕ → ℕ → ℕ → Result Checked Fault → Type 0
 Answers k bytes n m v = (wanted : Wanted) → wants_of wanted k ≡ true → v ≡ checks (certificate_check wanted bytes n m)
-
--- the last test: a fault before the end, or none
-unfoldable pub ended : ℕ → ℕ → Told
-ended at end = cond (ltb at end) (refused 6 at) done

@@ -8,7 +8,7 @@ ghost use Rattle.refusal.specs.Tests.{first};
 ghost use Rattle.record.specs.Layouts.{ranking, exclusion, lasso, kind_of};
 ghost use Rattle.record.specs.Readers.{framing, loop_reader};
 ghost use Rattle.record.specs.Wants.{wants_of};
-ghost use Rattle.record_check.specs.Checks.{checks, certificate_check, Framed, Opened, Answers, ended};
+ghost use Rattle.record_check.specs.Checks.{checks, certificate_check, Framed, Opened, Answers};
 
 use record::Wanted;
 use refusal::{Fault, refused};
@@ -43,16 +43,6 @@ pub fn frame(bytes: &[u8]) -> Result<(), Fault>
     Ok(())
 }
 
-// The last test of a record: `at` is where its values have their first fault, `end` where they end.
-pub fn ends(at: usize, end: usize) -> Result<(), Fault>
-    ensures { result ≡ result_of (ended at end) tt }
-{
-    if at < end {
-        return refused(6, at);
-    }
-    Ok(())
-}
-
 // ---- the kinds: layout, length formula and value range of each. A caller that knows the frame and the kind asks for the rest alone
 
 pub fn loop_record(bytes: &[u8]) -> Result<Checked, Fault>
@@ -75,7 +65,7 @@ pub fn loop_record(bytes: &[u8]) -> Result<Checked, Fault>
     if end != 10 + m * (4 * n + 4) {
         return refused(3, 0);
     }
-    ends(record_faults::rows_fault(bytes, 10, n, m), end)?;
+    record_faults::rows_fault(bytes, 10, n, m)?;
     Ok(Checked {
         kind: 1,
         n,
@@ -92,7 +82,7 @@ pub fn ranking_record(bytes: &[u8], n: usize, m: usize) -> Result<Checked, Fault
     if end != 6 + 4 * m {
         return refused(3, 0);
     }
-    ends(record_faults::multipliers_fault(bytes, 6, 2 * m), end)?;
+    record_faults::multipliers_fault(bytes, 6, 2 * m)?;
     Ok(Checked {
         kind: 2,
         n,
@@ -109,7 +99,7 @@ pub fn exclusion_record(bytes: &[u8], n: usize, m: usize) -> Result<Checked, Fau
     if end != 8 + 12 * n {
         return refused(3, 0);
     }
-    ends(record_faults::exclusion_fault(bytes, 6, n), end)?;
+    record_faults::exclusion_fault(bytes, 6, n)?;
     Ok(Checked {
         kind: 3,
         n,
@@ -133,7 +123,7 @@ pub fn lasso_record(bytes: &[u8], n: usize, m: usize) -> Result<Checked, Fault>
     if end != 22 + 2 * n + ms * (4 * n + 6) + 6 * m {
         return refused(3, 0);
     }
-    ends(record_faults::lasso_fault(bytes, 8, n, m, ms), end)?;
+    record_faults::lasso_fault(bytes, 8, n, m, ms)?;
     Ok(Checked { kind: 4, n, m, ms })
 }
 

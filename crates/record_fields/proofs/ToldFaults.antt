@@ -16,7 +16,7 @@ use Rattle.record.specs.Fields.{width, Field, widths, values, in_range}
 use Rattle.record.specs.Ranges.{within}
 use Rattle.record.proofs.FieldLaws.{widths_append}
 use Rattle.record_fields.specs.Runs.{fits, fault, fault_told, run_told, list_fault, list_told}
-use Rattle.record_fields.proofs.FirstFaults.{width_some, before_all, before_some, fault_none, one_fits, one_out, fault_all, fault_some, fault_within, stops, goes_on}
+use Rattle.record_fields.proofs.FirstFaults.{width_some, fault_next, before_all, before_some, fault_none, one_fits, one_out, fault_all, fault_some, fault_within, stops, goes_on}
 use Rattle.record_fields.proofs.ListFaults.{list_fault_none, list_one_fits, list_one_out, list_all_fit, list_stops, list_goes_on}
 
 -- ---- what a fault tells
@@ -74,6 +74,10 @@ module _ (bytes : List ℕ) where
   pub run_told-none : (place : ℕ) → run_told [] bytes place ≡ done
   unfolding run_told widths
   run_told-none place = fault_told-end (fault [] bytes place) (place + 0) (omega (arith, fault_none bytes place))
+
+  pub run_told-next : (f : Field) (fs : List Field) (place : ℕ) → fits f bytes place ≡ true → run_told (f ∷ fs) bytes place ≡ run_told fs bytes (place + width f.form)
+  unfolding run_told widths
+  run_told-next f fs place h = rw (fault_next bytes f fs place h) (ap (fault_told (fault fs bytes (place + width f.form))) (sym (add_assoc place (width f.form) (widths fs))))
 
   pub run_told-append : (fs gs : List Field) (place : ℕ) → run_told (fs ++ gs) bytes place ≡ (run_told fs bytes place then run_told gs bytes (place + widths fs))
   unfolding run_told

@@ -1,9 +1,10 @@
 -- `record_check::lasso_record` meets its contract.
 use Rattle.std.proofs.Common.{◌≡◌, ◌+◌, ◌*◌, ◌≤◌, ◌∙◌, sym, ap, arith, rules, Err}
 use native.Mathlib.Nat.{mul-le-mul}
+use Rattle.refusal.specs.Faults.{result_of}
 use Rattle.record.specs.Layouts.{length_of}
 use Rattle.record.proofs.CountLimits.{rows_most, arguments_most}
-use Rattle.record_fields.specs.Runs.{fault}
+use Rattle.record_fields.specs.Runs.{run_told}
 use Rattle.record_fields.proofs.BodyParts.{lasso_is}
 use Rattle.record_check.proofs.LassoWays.{lasso_short, lasso_ms, lasso_length, lasso_out, lasso_sound}
 use Rattle.record_check.proofs.lasso_record.Goals as goal
@@ -59,22 +60,22 @@ returns-then-end-n c wanted known =
     ∙ lasso_length wanted a.bytes.now a.n a.m c.requires.frame c.requires.numbered known c.requires.arguments c.if-end-lt8.false c.u16_at-ms.result c.u16_at-ms.ensures.0 fits
     (λ e. c.if-end-n.true (omega (arith, e)))
 
-pub returns-in_err-ends : goal.returns-in_err-ends
+pub returns-in_err-lasso_fault : goal.returns-in_err-lasso_fault
 unfolding length_of
-returns-in_err-ends c wanted known =
+returns-in_err-lasso_fault c wanted known =
     let a = c.args in
     let fits = sym c.rows_fit.ensures ∙ c.if-not-rows_fit.false in
-    let told = c.lasso_fault.ensures ∙ ap (λ fs. fault fs a.bytes.now 8) (sym (lasso_is (record { n = a.n; m = a.m; ms = c.u16_at-ms.result }))) in
-    let e : c.from_residual.result ≡ Err c.in_err-ends.field-0.0 = search rules in
+    let told = c.lasso_fault.ensures ∙ ap (λ fs. result_of (run_told fs a.bytes.now 8) tt) (sym (lasso_is (record { n = a.n; m = a.m; ms = c.u16_at-ms.result }))) in
+    let e : c.from_residual.result ≡ Err c.in_err-lasso_fault.field-0.0 = search rules in
     e
     ∙ lasso_out wanted a.bytes.now a.n a.m c.requires.frame c.requires.numbered known c.requires.arguments c.if-end-lt8.false c.u16_at-ms.result c.u16_at-ms.ensures.0 fits
-    (omega (arith, c.if-end-n.false)) c.lasso_fault.result told c.in_err-ends.field-0.0 (sym c.in_err-ends.was ∙ c.ends.ensures)
+    (omega (arith, c.if-end-n.false)) c.in_err-lasso_fault.field-0.0 (sym c.in_err-lasso_fault.was ∙ told)
 
 pub returns : goal.returns
 unfolding length_of
 returns c wanted known =
     let a = c.args in
     let fits = sym c.rows_fit.ensures ∙ c.if-not-rows_fit.false in
-    let told = c.lasso_fault.ensures ∙ ap (λ fs. fault fs a.bytes.now 8) (sym (lasso_is (record { n = a.n; m = a.m; ms = c.u16_at-ms.result }))) in
+    let told = c.lasso_fault.ensures ∙ ap (λ fs. result_of (run_told fs a.bytes.now 8) tt) (sym (lasso_is (record { n = a.n; m = a.m; ms = c.u16_at-ms.result }))) in
     lasso_sound wanted a.bytes.now a.n a.m c.requires.frame c.requires.numbered known c.requires.arguments c.if-end-lt8.false c.u16_at-ms.result c.u16_at-ms.ensures.0 fits
-    (omega (arith, c.if-end-n.false)) c.lasso_fault.result told (sym c.in_ok-ends.was ∙ c.ends.ensures)
+    (omega (arith, c.if-end-n.false)) (sym c.in_ok-lasso_fault.was ∙ told)

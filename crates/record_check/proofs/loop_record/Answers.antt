@@ -26,18 +26,18 @@ returns-then-end-m c =
     c.refused-then-end-m.ensures
     ∙ loop_length c.args.bytes.now c.requires.framed c.requires.numbered c.if-end-lt10.false c.u16_at-n.result c.u16_at-n.ensures.0 n_fits c.u16_at-m.result c.u16_at-m.ensures.0 m_fits c.if-end-m.true
 
-pub returns-in_err-ends : goal.returns-in_err-ends
-returns-in_err-ends c =
+pub returns-in_err-rows_fault : goal.returns-in_err-rows_fault
+returns-in_err-rows_fault c =
     let n_fits = sym c.variables_fit.ensures ∙ c.if-not-variables_fit.false in
     let m_fits = sym c.rows_fit.ensures ∙ c.if-not-rows_fit.false in
-    let e : c.from_residual.result ≡ Err c.in_err-ends.field-0.0 = search rules in
+    let e : c.from_residual.result ≡ Err c.in_err-rows_fault.field-0.0 = search rules in
     e
     ∙ loop_out c.args.bytes.now c.requires.framed c.requires.numbered c.if-end-lt10.false c.u16_at-n.result c.u16_at-n.ensures.0 n_fits c.u16_at-m.result c.u16_at-m.ensures.0 m_fits
-    c.if-end-m.false c.rows_fault.result c.rows_fault.ensures c.in_err-ends.field-0.0 (sym c.in_err-ends.was ∙ c.ends.ensures)
+    c.if-end-m.false c.in_err-rows_fault.field-0.0 (sym c.in_err-rows_fault.was ∙ c.rows_fault.ensures)
 
 pub returns : goal.returns
 returns c =
     let n_fits = sym c.variables_fit.ensures ∙ c.if-not-variables_fit.false in
     let m_fits = sym c.rows_fit.ensures ∙ c.if-not-rows_fit.false in
     loop_sound c.args.bytes.now c.requires.framed c.requires.numbered c.if-end-lt10.false c.u16_at-n.result c.u16_at-n.ensures.0 n_fits c.u16_at-m.result c.u16_at-m.ensures.0 m_fits
-    c.if-end-m.false c.rows_fault.result c.rows_fault.ensures (sym c.in_ok-ends.was ∙ c.ends.ensures)
+    c.if-end-m.false (sym c.in_ok-rows_fault.was ∙ c.rows_fault.ensures)
