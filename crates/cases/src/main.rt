@@ -273,10 +273,9 @@ fn main(rt: HostRuntime) {
     let mut errors = rt.stderr();
     let mut room = text_room();
     let what = b"cases: cannot read standard input";
-    let input = streams::read_input(&mut rt.stdin(), &mut errors, &mut room, what);
-    if input.failed {
+    let Ok(size) = streams::read_input(&mut rt.stdin(), &mut errors, &mut room, what) else {
         return;
-    }
+    };
     let mut printer = Printer::new(rt.stdout(), errors);
-    run_text(&mut printer, cases_lines::bytes_of(&room, input.size));
+    run_text(&mut printer, cases_lines::bytes_of(&room, size));
 }

@@ -5,8 +5,9 @@
 ghost use Rattle.std.specs.Prelude.{◌≡◌};
 
 use record::{Reading, Writing};
-use std::io;
+use std::fmt::Write as _;
 use std::io::Write;
+use std::{fmt, io};
 use verdict::{Bounded, Grade, Outcome, Verdict};
 use verdict_batch::Batched;
 
@@ -16,6 +17,14 @@ pub struct Printer<W, E> {
     output: W,
     errors: E,
     told: bool,
+}
+
+// A failure is told, and no error: so what writes to a printer has no error to pass on.
+impl<W: Write, E: Write> fmt::Write for Printer<W, E> {
+    fn write_str(&mut self, text: &str) -> fmt::Result {
+        self.word(text.as_bytes());
+        Ok(())
+    }
 }
 
 impl<W: Write, E: Write> Printer<W, E> {
@@ -37,20 +46,9 @@ impl<W: Write, E: Write> Printer<W, E> {
         } else {
             streams::write_text(&mut self.output, &mut self.errors, text, what)
         };
-        if sent.failed {
+        if sent.is_err() {
             self.told = true;
         }
-    }
-
-    fn digits(&mut self, x: usize) {
-        let mut text = [0u8; 20];
-        let end = decimal::put_u64(&mut text, 0, x as u64);
-        self.word(&text[..end]);
-    }
-
-    fn number(&mut self, x: usize) {
-        self.word(b" ");
-        self.digits(x);
     }
 
     // Number, place, kind, n, m and the count of values.
@@ -58,13 +56,11 @@ impl<W: Write, E: Write> Printer<W, E> {
         ensures { result ≡ tt }
     {
         self.word(name);
-        self.number(r.number);
-        self.number(r.place);
-        self.number(r.kind);
-        self.number(r.n);
-        self.number(r.m);
-        self.number(r.count);
-        self.word(b"\n");
+        let _ = writeln!(
+            self,
+            " {} {} {} {} {} {}",
+            r.number, r.place, r.kind, r.n, r.m, r.count
+        );
     }
 
     // Number, place and the count of bytes.
@@ -72,63 +68,34 @@ impl<W: Write, E: Write> Printer<W, E> {
         ensures { result ≡ tt }
     {
         self.word(name);
-        self.number(w.number);
-        self.number(w.place);
-        self.number(w.written);
-        self.word(b"\n");
-    }
-
-    fn signed(&mut self, x: i64) {
-        let mut text = [0u8; 20];
-        let end = decimal::put_i64(&mut text, 0, x);
-        self.word(b" ");
-        self.word(&text[..end]);
-    }
-
-    fn start_and_fall(&mut self, start: i64, fall: i64) {
-        self.signed(start);
-        self.signed(fall);
-    }
-
-    fn graded(&mut self, grade: Grade) {
-        match grade {
-            Grade::Whole => self.word(b" whole"),
-            Grade::Fractions => self.word(b" fractions"),
-        }
+        let _ = writeln!(self, " {} {} {}", w.number, w.place, w.written);
     }
 
     fn shown(&mut self, outcome: Outcome) {
-        match outcome {
-            Outcome::Nothing => self.word(b" nothing"),
-            Outcome::Ranking { start, fall } => {
-                self.word(b" ranking");
-                self.start_and_fall(start, fall);
-            }
-            Outcome::Exclusion { grade } => self.graded(grade),
-            Outcome::Lasso { start, fall } => {
-                self.word(b" lasso");
-                self.start_and_fall(start, fall);
-            }
-            Outcome::Lexicographic => self.word(b" lexicographic"),
-            Outcome::Settling { start, fall } => {
-                self.word(b" settling");
-                self.start_and_fall(start, fall);
-            }
-        }
+        let _ = match outcome {
+            Outcome::Nothing => write!(self, " nothing"),
+            Outcome::Ranking { start, fall } => write!(self, " ranking {start} {fall}"),
+            Outcome::Exclusion {
+                grade: Grade::Whole,
+            } => write!(self, " whole"),
+            Outcome::Exclusion {
+                grade: Grade::Fractions,
+            } => write!(self, " fractions"),
+            Outcome::Lasso { start, fall } => write!(self, " lasso {start} {fall}"),
+            Outcome::Lexicographic => write!(self, " lexicographic"),
+            Outcome::Settling { start, fall } => write!(self, " settling {start} {fall}"),
+        };
     }
 
     fn told(&mut self, name: &[u8], v: Verdict) {
         self.word(name);
-        self.number(v.number);
-        self.number(v.place);
-        self.number(v.about);
-        let outcome = v.outcome;
-        self.shown(outcome);
+        let _ = write!(self, " {} {} {}", v.number, v.place, v.about);
+        self.shown(v.outcome);
     }
 
     fn listed(&mut self, values: &[i64]) {
         for value in values {
-            self.signed(*value);
+            let _ = write!(self, " {value}");
         }
     }
 
@@ -145,39 +112,19 @@ impl<W: Write, E: Write> Printer<W, E> {
     pub fn bounded(&mut self, name: &[u8], b: Bounded)
         ensures { result ≡ tt }
     {
-        let verdict = b.verdict;
-        self.told(name, verdict);
-        self.word(b" bound");
-        self.number(b.bound);
-        self.word(b"\n");
-    }
-
-    // A signed number out of its 64 bits.
-    fn signed_bits(&mut self, x: usize) {
-        if x < 9223372036854775808 {
-            self.number(x);
-        } else {
-            self.word(b" -");
-            self.digits(18446744073709551615 - x + 1);
-        }
+        self.told(name, b.verdict);
+        let _ = writeln!(self, " bound {}", b.bound);
     }
 
     // A verdict's seven numbers; the fifth and the sixth are signed.
     fn verdict_numbers(&mut self, row: &[usize; 7]) {
-        self.word(b",");
-        self.number(row[0]);
-        self.number(row[1]);
-        self.number(row[2]);
-        self.number(row[3]);
-        self.signed_bits(row[4]);
-        self.signed_bits(row[5]);
-        self.number(row[6]);
-    }
-
-    fn verdicts(&mut self, rows: &[[usize; 7]]) {
-        for row in rows {
-            self.verdict_numbers(row);
-        }
+        let [number, place, record, outcome, start, fall, grade] = *row;
+        let start = start.cast_signed();
+        let fall = fall.cast_signed();
+        let _ = write!(
+            self,
+            ", {number} {place} {record} {outcome} {start} {fall} {grade}"
+        );
     }
 
     // Number, place, record and count of a batch; the whole row of verdicts that was lent to it, and the whole list of rank numbers.
@@ -185,11 +132,10 @@ impl<W: Write, E: Write> Printer<W, E> {
         ensures { result ≡ tt }
     {
         self.word(name);
-        self.number(b.number);
-        self.number(b.place);
-        self.number(b.about);
-        self.number(b.count);
-        self.verdicts(rows);
+        let _ = write!(self, " {} {} {} {}", b.number, b.place, b.about, b.count);
+        for row in rows {
+            self.verdict_numbers(row);
+        }
         self.word(b" ranks");
         self.listed(ranks);
         self.word(b"\n");

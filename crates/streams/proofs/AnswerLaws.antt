@@ -1,9 +1,10 @@
 -- The laws of steps, test by test, and of bytes that several calls move. Assumes nothing.
-use Rattle.std.proofs.Common.{◌≡◌, ℕ, zero, suc, ◌+◌, ◌-◌, ◌≤◌, ⊎_elim, min, Bool, true, false, true≢false, cond, not, ◌&&◌, ◌||◌, eqb, ℤ, pos, negsuc, arith, List, [], ◌∷◌, ◌++◌, length, take, drop, Result, Ok, Err, None, Some, Option, refl, sym, ap, ◌∙◌, subst, take-take, drop_at, take-append-drop, append-nil}
+use Rattle.std.proofs.Common.{◌≡◌, ℕ, zero, suc, ◌+◌, ◌-◌, ◌≤◌, ⊎_elim, min, Bool, true, false, true≢false, cond, not, ◌&&◌, ◌||◌, eqb, ℤ, pos, negsuc, arith, List, [], ◌∷◌, ◌++◌, length, take, drop, Result, Ok, Err, None, Some, Option, refl, sym, ap, ◌∙◌, subst, take-take, take-append-drop, append-nil}
 use Rattle.std.proofs.lemmas.Bool.{ne_eqb, lt-leb}
 use Rattle.std.proofs.lemmas.Bool.Decides.{eqb_tells}
 use Rattle.std.proofs.lemmas.List.{drop-take, take_min, take_rest, take-append-le}
-use Rattle.std.proofs.KnownBytes.{Consumes-trans, Appends-trans}
+use Rattle.std.proofs.KnownBytes.{Consumes-nil, Consumes-kept, Consumes-trans, Appends-trans}
+use Rattle.std.proofs.Math.Seq.{take-append-add}
 use Rattle.std.specs.Io.KnownBytes.{Keeps, Appends, Consumes, ReadConsumes, WriteAppends}
 use Rattle.std.specs.declared.io.Error.{Error}
 use Rattle.std.specs.declared.io.ErrorKind.{ErrorKind}
@@ -135,33 +136,44 @@ step-appends old new (Err error) buf kept = unwritten old new error buf (passes 
 
 -- ---- in several calls
 
--- what was read into a part lies behind what stands before it
-pub read-behind : (old new : Option (List ℕ)) (front part rest : List ℕ) (size count to : ℕ) → length front ≡ size → count ≤ length part → to ≡ size + count → Consumes old new (take count part)
-    → Consumes old new (drop size (take to (front ++ (part ++ rest))))
-read-behind old new front part rest size count to long within sum read =
-    let all = front ++ (part ++ rest) in
-    let behind : drop size (take to all) ≡ take count part =
-    ap (λ n. drop size (take n all)) sum ∙ drop-take size count all ∙ ap (take count) (drop_at front (part ++ rest) size long) ∙ take-append-le count part rest within in
-    subst (Consumes old new) (sym behind) read
+kept-read : (old new : Option (List ℕ)) → Keeps old new → Consumes old new []
+kept-read old new kept = Consumes-kept old old new [] (Consumes-nil old) kept
 
--- what was written of the rest of a text
-pub written-behind : (old new : Option (List ℕ)) (text : List ℕ) (size count to : ℕ) → to ≡ size + count → Appends old new (take count (take (length text - size) (drop size text)))
-    → Appends old new (drop size (take to text))
-written-behind old new text size count to sum written =
-    let behind : drop size (take to text) ≡ take count (take (length text - size) (drop size text)) =
-    ap (λ n. drop size (take n text)) sum ∙ drop-take size count text ∙ ap (take count) (sym (take_rest text size)) in
-    subst (Appends old new) (sym behind) written
+kept-written : (old new : Option (List ℕ)) → Keeps old new → Appends old new []
+kept-written None new kept = tt
+kept-written (Some xs) None kept = absurd kept
+kept-written (Some xs) (Some ys) kept = kept ∙ sym (append-nil xs)
 
--- the first bytes of a list, in two parts
+-- what was read into a part lies behind what was read before it
+pub read-on : (a b c : Option (List ℕ)) (front part rest : List ℕ) (size count to : ℕ) → length front ≡ size → count ≤ length part → to ≡ size + count → Consumes a b front
+    → Consumes b c (take count part) → Consumes a c (take to (front ++ (part ++ rest)))
+read-on a b c front part rest size count to long within sum first second =
+    let parts : take to (front ++ (part ++ rest)) ≡ front ++ take count part =
+    ap (λ n. take n (front ++ (part ++ rest))) (sum ∙ ap (λ n. n + count) (sym long)) ∙ take-append-add front (part ++ rest) count ∙ ap (λ l. front ++ l) (take-append-le count part rest within) in
+    subst (Consumes a c) (sym parts) (Consumes-trans a b c _ _ first second)
+
+-- a read that moved nothing leaves what was read before it
+pub read-no-more : (a b c : Option (List ℕ)) (front part rest : List ℕ) (size to : ℕ) → length front ≡ size → to ≡ size → Consumes a b front → Keeps b c
+    → Consumes a c (take to (front ++ (part ++ rest)))
+read-no-more a b c front part rest size to long same first kept =
+    read-on a b c front part rest size 0 to long (omega arith) (omega (arith, same)) first (kept-read b c kept)
+
+-- the first bytes of a text, in two parts
 in-parts : (list : List ℕ) (size to : ℕ) → size ≤ to → take to list ≡ take size list ++ drop size (take to list)
 in-parts list size to grows = sym (take-append-drop size (take to list)) ∙ ap (λ l. l ++ drop size (take to list)) (take-take size to list grows)
-
-pub read-on : (a b c : Option (List ℕ)) (room more : List ℕ) (size to : ℕ) → size ≤ to → take size more ≡ take size room → Consumes a b (take size room) → Consumes b c (drop size (take to more))
-    → Consumes a c (take to more)
-read-on a b c room more size to grows front first second =
-    let parts : take to more ≡ take size room ++ drop size (take to more) = in-parts more size to grows ∙ ap (λ l. l ++ drop size (take to more)) front in
-    subst (Consumes a c) (sym parts) (Consumes-trans a b c _ _ first second)
 
 pub written-on : (a b c : Option (List ℕ)) (text : List ℕ) (size to : ℕ) → size ≤ to → Appends a b (take size text) → Appends b c (drop size (take to text)) → Appends a c (take to text)
 written-on a b c text size to grows first second =
     subst (Appends a c) (sym (in-parts text size to grows)) (Appends-trans a b c _ _ first second)
+
+-- what was written of the rest of a text lies behind what was written before it
+pub written-more : (a b c : Option (List ℕ)) (text : List ℕ) (size count to : ℕ) → to ≡ size + count → Appends a b (take size text)
+    → Appends b c (take count (take (length text - size) (drop size text))) → Appends a c (take to text)
+written-more a b c text size count to sum first second =
+    let behind : drop size (take to text) ≡ take count (take (length text - size) (drop size text)) =
+    ap (λ n. drop size (take n text)) sum ∙ drop-take size count text ∙ ap (take count) (sym (take_rest text size)) in
+    written-on a b c text size to (omega (arith, sum)) first (subst (Appends b c) (sym behind) second)
+
+-- a write that moved nothing leaves what was written before it
+pub written-no-more : (a b c : Option (List ℕ)) (text : List ℕ) (size to : ℕ) → to ≡ size → Appends a b (take size text) → Keeps b c → Appends a c (take to text)
+written-no-more a b c text size to same first kept = written-more a b c text size 0 to (omega (arith, same)) first (kept-written b c kept)

@@ -7,7 +7,7 @@ use Rattle.std.specs.declared.option.Option.{Option}
 use Rattle.std.specs.declared.io.Error.{Error}
 use Rattle.std.specs.declared.io.ErrorKind.{ErrorKind}
 use Rattle.std.specs.declared.io.ErrorKind.TheVariants.{Interrupted, WouldBlock}
-use Rattle.streams.specs.declared.Reached.{Reached}
+use Rattle.streams.specs.declared.Stopped.{Stopped}
 use Rattle.streams.specs.declared.Step.{Step}
 use Rattle.streams.specs.declared.Step.TheVariants.{Moved, Nothing, Again, Failed}
 
@@ -39,9 +39,10 @@ Within most Nothing = ⊤
 Within most Again = ⊤
 Within most (Failed error) = ⊤
 
--- what stops has told a failure
-abbrev pub Tells : Reached → Type 0
-Tells r = r.more ≡ false → r.failed ≡ true
+-- how many bytes were moved, up to the end or up to a failure
+abbrev pub moved : Result ℕ Stopped → ℕ
+moved (Ok size) = size
+moved (Err stopped) = stopped.size
 
 -- a read gave the bytes that it moved, and gave none only at the end or with no room
 abbrev pub StepConsumes : Option (List ℕ) → Option (List ℕ) → Step → List ℕ → Type 0

@@ -8,9 +8,9 @@
 #[cfg(test)]
 mod tests;
 
-ghost use Rattle.std.specs.Prelude.{◌≤◌, ◌<◌, ◌≡◌, true, false, length, take, drop};
+ghost use Rattle.std.specs.Prelude.{◌≤◌, ◌<◌, ◌≡◌, length, take, IfOk, IfErr, OnOk};
 ghost use Rattle.std.specs.Io.KnownBytes.{Appends, Consumes, IsAtEnd};
-ghost use Rattle.streams.specs.SystemAnswers.{passes, step_of, IsPrefixLen, Within, Tells, StepConsumes, StepAppends};
+ghost use Rattle.streams.specs.SystemAnswers.{passes, step_of, moved, IsPrefixLen, Within, StepConsumes, StepAppends};
 
 use std::io::{ErrorKind, Read, Write};
 use std::{hint, io};
@@ -39,64 +39,15 @@ fn step_of(got: io::Result<usize>, buf: &[u8]) -> Step
     match got {
         Ok(0) => Step::Nothing,
         Ok(count) => Step::Moved(count.min(buf.len())),
-        Err(error) => {
-            if passing(error.kind()) {
-                Step::Again
-            } else {
-                Step::Failed(error)
-            }
-        }
+        Err(error) if passing(error.kind()) => Step::Again,
+        Err(error) => Step::Failed(error),
     }
 }
 
-// How far a stream has come: the bytes moved so far, whether it goes on, and whether a failure was told.
-#[derive(Clone, Copy)]
-pub struct Reached {
+// What stopped at a failure, which was told: how many bytes were moved before it.
+#[derive(Clone, Copy, Debug, PartialEq, Eq)]
+pub struct Stopped {
     pub size: usize,
-    pub more: bool,
-    pub failed: bool,
-}
-
-fn goes_on(size: usize) -> Reached
-    ensures size { result.size ≡ size }
-    ensures more { result.more ≡ true }
-{
-    Reached {
-        size,
-        more: true,
-        failed: false,
-    }
-}
-
-fn ended(size: usize) -> Reached
-    ensures size { result.size ≡ size }
-    ensures not_failed { result.failed ≡ false }
-{
-    Reached {
-        size,
-        more: false,
-        failed: false,
-    }
-}
-
-fn stopped(size: usize) -> Reached
-    ensures size { result.size ≡ size }
-    ensures failed { result.failed ≡ true }
-{
-    Reached {
-        size,
-        more: false,
-        failed: true,
-    }
-}
-
-// Before a call is tried again.
-fn waited(size: usize) -> Reached
-    ensures size { result.size ≡ size }
-    ensures more { result.more ≡ true }
-{
-    hint::spin_loop();
-    goes_on(size)
 }
 
 // The system's words for an error, without the number that `Display` writes behind them.
@@ -125,27 +76,24 @@ fn tell_error<E: Write>(errors: &mut E, what: &[u8], error: &io::Error) {
     tell(errors, what, words(text).as_bytes());
 }
 
-fn failed<E: Write>(errors: &mut E, what: &[u8], error: &io::Error, size: usize) -> Reached
-    ensures size { result.size ≡ size }
-    ensures failed { result.failed ≡ true }
+fn failed<E: Write>(errors: &mut E, what: &[u8], error: &io::Error, size: usize) -> Stopped
+    ensures { result.size ≡ size }
 {
     tell_error(errors, what, error);
-    stopped(size)
+    Stopped { size }
 }
 
 // Tells what failed where no call says why.
-fn gave_up<E: Write>(errors: &mut E, what: &[u8], why: &[u8], size: usize) -> Reached
-    ensures size { result.size ≡ size }
-    ensures failed { result.failed ≡ true }
+fn gave_up<E: Write>(errors: &mut E, what: &[u8], why: &[u8], size: usize) -> Stopped
+    ensures { result.size ≡ size }
 {
     tell(errors, what, why);
-    stopped(size)
+    Stopped { size }
 }
 
-// A proved loop has to end, so the loops here count their turns down from a number that no run uses up. This is what would be told after them.
-fn no_turns_left<E: Write>(errors: &mut E, what: &[u8], size: usize) -> Reached
-    ensures size { result.size ≡ size }
-    ensures failed { result.failed ≡ true }
+// A proved loop has to end, so the loops here have a number of turns that no run uses up. This is what would be told after them.
+fn no_turns_left<E: Write>(errors: &mut E, what: &[u8], size: usize) -> Stopped
+    ensures { result.size ≡ size }
 {
     gave_up(errors, what, b"gave up waiting", size)
 }
@@ -158,58 +106,32 @@ fn read_some<R: Read>(input: &mut R, buf: &mut [u8]) -> Step
     step_of(got, buf)
 }
 
-// One read into the room behind its first bytes.
-fn read_more<R: Read, E: Write>(
-    input: &mut R,
-    errors: &mut E,
-    room: &mut [u8],
-    size: usize,
-    what: &[u8],
-) -> Reached
-    requires { size ≤ length room.old }
-    ensures within { result.size ≤ length room.old }
-    ensures grows { size ≤ result.size }
-    ensures front { take size room.new ≡ take size room.old }
-    ensures bytes { Consumes (R.remaining input.old) (R.remaining input.new)
-        (drop size (take result.size room.new)) }
-    ensures end { result.more ≡ false → result.failed ≡ false → size < length room.old
-        → IsAtEnd (R.remaining input.new) }
-{
-    match read_some(input, &mut room[size..]) {
-        Step::Moved(count) => goes_on(size + count),
-        Step::Nothing => ended(size),
-        Step::Again => waited(size),
-        Step::Failed(error) => failed(errors, what, &error, size),
-    }
-}
-
-// Reads until the input ends, the room is full, or a read fails, which is told as `what` with the reason.
+// Reads until the input ends, the room is full, or a read fails, which is told as `what` with the reason. Before a read is tried again the program
+// spins once.
 pub fn read_input<R: Read, E: Write>(
     input: &mut R,
     errors: &mut E,
     room: &mut [u8],
     what: &[u8],
-) -> Reached
-    ensures prefix { IsPrefixLen result.size room.new }
+) -> Result<usize, Stopped>
+    ensures prefix { IsPrefixLen (moved result) room.new }
     ensures bytes { Consumes (R.remaining input.old) (R.remaining input.new)
-        (take result.size room.new) }
-    ensures end { result.failed ≡ false → result.size < length room.old
-        → IsAtEnd (R.remaining input.new) }
+        (take (moved result) room.new) }
+    ensures end { IfOk result (λ size. size < length room.old → IsAtEnd (R.remaining input.new)) }
 {
     let mut size = 0;
-    let mut turns = u64::MAX;
-    while size < room.len() {
-        if turns == 0 {
-            return no_turns_left(errors, what, size);
+    for _ in 0..u64::MAX {
+        if size >= room.len() {
+            return Ok(size);
         }
-        turns -= 1;
-        let reached = read_more(input, errors, room, size, what);
-        if !reached.more {
-            return reached;
+        match read_some(input, &mut room[size..]) {
+            Step::Moved(count) => size += count,
+            Step::Nothing => return Ok(size),
+            Step::Again => hint::spin_loop(),
+            Step::Failed(error) => return Err(failed(errors, what, &error, size)),
         }
-        size = reached.size;
     }
-    ended(size)
+    Err(no_turns_left(errors, what, size))
 }
 
 fn write_some<W: Write>(output: &mut W, buf: &[u8]) -> Step
@@ -220,53 +142,29 @@ fn write_some<W: Write>(output: &mut W, buf: &[u8]) -> Step
     step_of(got, buf)
 }
 
-// One write of the text behind its first bytes.
-fn write_more<W: Write, E: Write>(
-    output: &mut W,
-    errors: &mut E,
-    text: &[u8],
-    size: usize,
-    what: &[u8],
-) -> Reached
-    requires { size ≤ length text.now }
-    ensures within { result.size ≤ length text.now }
-    ensures tells { Tells result }
-    ensures grows { size ≤ result.size }
-    ensures bytes { Appends (W.contents output.old) (W.contents output.new)
-        (drop size (take result.size text.now)) }
-{
-    match write_some(output, &text[size..]) {
-        Step::Moved(count) => goes_on(size + count),
-        Step::Nothing => gave_up(errors, what, b"no byte is taken", size),
-        Step::Again => waited(size),
-        Step::Failed(error) => failed(errors, what, &error, size),
-    }
-}
-
 // Writes all of a text, or stops at a write that fails, which is told as `what` with the reason.
 pub fn write_text<W: Write, E: Write>(
     output: &mut W,
     errors: &mut E,
     text: &[u8],
     what: &[u8],
-) -> Reached
-    ensures within { result.size ≤ length text.now }
-    ensures whole { result.failed ≡ false → result.size ≡ length text.now }
-    ensures bytes { Appends (W.contents output.old) (W.contents output.new)
-        (take result.size text.now) }
+) -> Result<(), Stopped>
+    ensures whole { OnOk result (Appends (W.contents output.old) (W.contents output.new) text.now) }
+    ensures within { IfErr result (λ stopped. stopped.size ≤ length text.now) }
+    ensures bytes { IfErr result (λ stopped. Appends (W.contents output.old) (W.contents output.new)
+        (take stopped.size text.now)) }
 {
     let mut size = 0;
-    let mut turns = u64::MAX;
-    while size < text.len() {
-        if turns == 0 {
-            return no_turns_left(errors, what, size);
+    for _ in 0..u64::MAX {
+        if size >= text.len() {
+            return Ok(());
         }
-        turns -= 1;
-        let reached = write_more(output, errors, text, size, what);
-        if !reached.more {
-            return reached;
+        match write_some(output, &text[size..]) {
+            Step::Moved(count) => size += count,
+            Step::Nothing => return Err(gave_up(errors, what, b"no byte is taken", size)),
+            Step::Again => hint::spin_loop(),
+            Step::Failed(error) => return Err(failed(errors, what, &error, size)),
         }
-        size = reached.size;
     }
-    ended(size)
+    Err(no_turns_left(errors, what, size))
 }

@@ -66,8 +66,7 @@ fn tries_again_and_reads_to_the_end(rt: HostRuntime) {
     let mut told = [0u8; 64];
     let mut room = [0u8; 8];
     let reached = read_input(&mut input, &mut &mut told[..], &mut room, b"no input");
-    assert_eq!(rt; reached.size, 3);
-    assert!(rt; !reached.failed);
+    assert_eq!(rt; reached, Ok(3));
     assert_eq!(rt; &room, b"aaa\0\0\0\0\0");
     assert_eq!(rt; told[0], 0);
 }
@@ -78,8 +77,7 @@ fn tells_a_read_that_fails(rt: HostRuntime) {
     let mut told = [0u8; 29];
     let mut room = [0u8; 8];
     let reached = read_input(&mut input, &mut &mut told[..], &mut room, b"no input");
-    assert_eq!(rt; reached.size, 2);
-    assert!(rt; reached.failed);
+    assert_eq!(rt; reached, Err(Stopped { size: 2 }));
     assert_eq!(rt; &told, b"no input: Input/output error\n");
 }
 
@@ -88,7 +86,6 @@ fn tells_a_write_that_takes_nothing(rt: HostRuntime) {
     let mut output = answering([Ok(2), interrupted(), blocked(), Ok(0)]);
     let mut told = [0u8; 29];
     let sent = write_text(&mut output, &mut &mut told[..], b"text", b"no output");
-    assert_eq!(rt; sent.size, 2);
-    assert!(rt; sent.failed);
+    assert_eq!(rt; sent, Err(Stopped { size: 2 }));
     assert_eq!(rt; &told, b"no output: no byte is taken\n\0");
 }

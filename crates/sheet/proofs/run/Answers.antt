@@ -5,8 +5,8 @@ use Rattle.sheet.proofs.run.Goals as goal
 
 pub returns : goal.returns
 returns g c =
-    let r = c.read_input-read in
-    let p = c.print_sheet-printed in
-    λ whole.
-    whole_text _ _ _ _ r.new.room r.result.size p.result.done (omega (arith, r.auto.room, c.input_room-room.ensures)) r.ensures.prefix.0 r.ensures.bytes
-    (λ less. r.ensures.end c.if-read.false (omega (arith, less, r.auto.room))) (p.ensures.whole whole) p.ensures.bytes
+    let r = c.read_input in
+    let read = c.in_ok-size in
+    let printed = c.in_ok-print_sheet in
+    whole_text _ _ _ _ r.new.room read.size printed.field-0 (omega (arith, r.auto.room, c.input_room-room.ensures)) read.ensures.prefix.0 read.ensures.bytes
+    (λ less. read.ensures.end (omega (arith, less, r.auto.room))) printed.ensures.whole printed.ensures.bytes

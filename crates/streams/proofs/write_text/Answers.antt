@@ -1,15 +1,13 @@
 -- What a turn wrote lies behind what was written before it.
-use Rattle.streams.proofs.AnswerLaws.{written-on}
+use Rattle.std.proofs.Common.{arith}
+use Rattle.streams.proofs.AnswerLaws.{written-more, written-no-more}
 use Rattle.streams.proofs.write_text.Goals as goal
+use Rattle.streams.proofs.write_text.Goals.{in-Moved, in-Again}
 
-pub returns-then-not-reached-clause-bytes : goal.returns-then-not-reached-clause-bytes
-returns-then-not-reached-clause-bytes g c =
-    let l = c.loop-size in
-    let w = c.write_more-reached in
-    written-on _ _ _ c.args.text.now l.size w.result.size w.ensures.grows l.invariant.1 w.ensures.bytes
-
-pub loop-size-preserved : goal.loop-size-preserved
-loop-size-preserved g c =
-    let l = c.loop-size in
-    let w = c.write_more-reached in
-    (w.ensures.within, written-on _ _ _ c.args.text.now l.size w.result.size w.ensures.grows l.invariant.1 w.ensures.bytes)
+pub loop-preserved : goal.loop-preserved
+loop-preserved g c =
+    let l = c.loop in
+    elim c.match-write_some.branch [
+      | in-Moved w ↦ (omega (arith, w.in-Moved.ensures.within), written-more _ _ _ c.args.text.now l.size w.in-Moved.count _ w.size-is l.invariant.1 w.in-Moved.ensures.bytes)
+      | in-Again w ↦ (omega arith, written-no-more _ _ _ c.args.text.now l.size _ w.size-is l.invariant.1 w.in-Again.ensures.bytes)
+    ]
