@@ -2,7 +2,8 @@
 // numbers are decimal, and one blank parts two words.
 #![tactic(auto)]
 
-ghost use Rattle.std.specs.Prelude.{◌<◌, ◌≤◌, length};
+ghost use Rattle.std.specs.Prelude.{◌≡◌, ◌<◌, ◌≤◌, length};
+ghost use Rattle.cases_lines.specs.Words.{next_word, behind};
 
 // What is still to be read of a line.
 #[derive(Clone, Copy)]
@@ -40,7 +41,10 @@ impl<'a> Line<'a> {
     }
 
     // The next word: what stands before the next blank, or before the end.
-    pub fn word(&mut self) -> &'a [u8] {
+    pub fn word(&mut self) -> &'a [u8]
+        ensures word { result.now ≡ next_word self.old.rest.now }
+        ensures behind { self.new.rest.now ≡ behind self.old.rest.now }
+    {
         let rest = self.rest;
         match rest.iter().position(|byte| *byte == b' ') {
             Some(end) => {
@@ -66,7 +70,9 @@ impl<'a> Line<'a> {
     }
 
     // Puts the numbers that are left into a list, and lends those; numbers past its end are left out.
-    pub fn numbers<'b>(&mut self, list: &'b mut [i64]) -> &'b [i64] {
+    pub fn numbers<'b>(&mut self, list: &'b mut [i64]) -> &'b [i64]
+        ensures { length result.now ≤ length list.old }
+    {
         let mut count = 0;
         for place in list.iter_mut() {
             if self.rest.is_empty() {
@@ -79,7 +85,9 @@ impl<'a> Line<'a> {
     }
 
     // Puts the bytes that the next word tells into a room, and lends those; bytes past its end are left out.
-    pub fn bytes<'b>(&mut self, room: &'b mut [u8]) -> &'b [u8] {
+    pub fn bytes<'b>(&mut self, room: &'b mut [u8]) -> &'b [u8]
+        ensures { length result.now ≤ length room.old }
+    {
         let word = self.word();
         let count = room.len().min(word.len() / 2);
         let bytes = &mut room[..count];

@@ -1,0 +1,2 @@
+-- the words of a line
+pub mod Words
