@@ -121,20 +121,8 @@ fn flat_certificate(
     }
     let kind = endian::u16_at(certificate, 4);
     match kind {
-        2 => FlatVerdict::from(judge::by_ranking(
-            &loopbytes[..],
-            n,
-            m,
-            &certificate[..],
-            rank,
-        )),
-        4 => FlatVerdict::from(judge::by_lasso(
-            &loopbytes[..],
-            n,
-            m,
-            &certificate[..],
-            rank,
-        )),
+        2 => FlatVerdict::from(judge::by_ranking(&loopbytes[..], n, m, &certificate[..], rank)),
+        4 => FlatVerdict::from(judge::by_lasso(&loopbytes[..], n, m, &certificate[..], rank)),
         8 => FlatVerdict::from(judge_by_kind::settling_sound(
             &loopbytes[..],
             n,
@@ -142,14 +130,7 @@ fn flat_certificate(
             &certificate[..],
             rank,
         )),
-        _ => FlatVerdict::from(judge_others(
-            &loopbytes[..],
-            n,
-            m,
-            &certificate[..],
-            kind,
-            rank,
-        )),
+        _ => FlatVerdict::from(judge_others(&loopbytes[..], n, m, &certificate[..], kind, rank)),
     }
 }
 

@@ -67,53 +67,61 @@ pub struct FlatBatch {
 
 // ---- flattening
 
-fn flat_reading(r: Reading) -> FlatReading
-    ensures { result ≡ flat_reading r }
-{
-    FlatReading {
-        number: r.number,
-        place: r.place,
-        kind: r.kind,
-        n: r.n,
-        m: r.m,
-        count: r.count,
+impl From<Reading> for FlatReading {
+    ghost from_gives = { λ r flat. flat ≡ flat_reading r };
+
+    fn from(r: Reading) -> FlatReading {
+        FlatReading {
+            number: r.number,
+            place: r.place,
+            kind: r.kind,
+            n: r.n,
+            m: r.m,
+            count: r.count,
+        }
     }
 }
 
-fn flat_writing(w: Writing) -> FlatWriting
-    ensures { result ≡ flat_writing w }
-{
-    FlatWriting {
-        number: w.number,
-        place: w.place,
-        written: w.written,
+impl From<Writing> for FlatWriting {
+    ghost from_gives = { λ w flat. flat ≡ flat_writing w };
+
+    fn from(w: Writing) -> FlatWriting {
+        FlatWriting {
+            number: w.number,
+            place: w.place,
+            written: w.written,
+        }
     }
 }
 
-fn flat_bounded(b: Bounded) -> FlatBounded
-    ensures { result ≡ flat_bounded b }
-{
-    let v = verdict_flat::flat_verdict(b.verdict);
-    FlatBounded {
-        number: v.number,
-        place: v.place,
-        record: v.record,
-        outcome: v.outcome,
-        start: v.start,
-        fall: v.fall,
-        grade: v.grade,
-        bound: b.bound,
+impl From<Bounded> for FlatBounded {
+    ghost from_gives = { λ b flat. flat ≡ flat_bounded b };
+
+    fn from(b: Bounded) -> FlatBounded {
+        let v = FlatVerdict::from(b.verdict);
+        FlatBounded {
+            number: v.number,
+            place: v.place,
+            record: v.record,
+            outcome: v.outcome,
+            start: v.start,
+            fall: v.fall,
+            grade: v.grade,
+            bound: b.bound,
+        }
     }
 }
 
-fn flat_batch(b: Batched) -> FlatBatch
-    ensures { result ≡ flat_batch b }
-{
-    FlatBatch {
-        number: b.number,
-        place: b.place,
-        record: b.about,
-        count: b.count,
+impl From<Batched> for FlatBatch {
+    ghost from_gives = { λ b flat. flat ≡ flat_batch b };
+
+    fn from(b: Batched) -> FlatBatch {
+        FlatBatch {
+            number: b.number,
+            place: b.place,
+            record: b.about,
+            count: b.count,
+        }
     }
 }
 
@@ -125,7 +133,7 @@ pub extern "C" fn cushiedoo_read_loop(bytes: &[u8], values: &mut [i64]) -> FlatR
     ensures value { result ≡ flat_reading (reads (loop_reader bytes.now values.old)) }
     ensures values_after { values.new ≡ fills (loop_reader bytes.now values.old) values.old }
 {
-    flat_reading(record_read::read_loop(bytes, values))
+    record_read::read_loop(bytes, values).into()
 }
 
 // Reads a certificate record for a loop over n variables with m rows.
@@ -139,7 +147,7 @@ pub extern "C" fn cushiedoo_read_certificate(
     ensures value { result ≡ flat_reading (reads (certificate_reader bytes.now n m values.old)) }
     ensures values_after { values.new ≡ fills (certificate_reader bytes.now n m values.old) values.old }
 {
-    flat_reading(record_read::read_certificate(bytes, n, m, values))
+    record_read::read_certificate(bytes, n, m, values).into()
 }
 
 // Writes a record.
@@ -154,7 +162,7 @@ pub extern "C" fn cushiedoo_write_record(
     ensures value { result ≡ flat_writing (writes (writer kind n m values.now room.old)) }
     ensures room_after { room.new ≡ room_after (writer kind n m values.now room.old) room.old }
 {
-    flat_writing(record_write::write_record(kind, n, m, values, room))
+    record_write::write_record(kind, n, m, values, room).into()
 }
 
 // Moves a ranking from kind 2 to kind 7.
@@ -168,7 +176,7 @@ pub extern "C" fn cushiedoo_shorten(
     ensures value { result ≡ flat_writing (shortens ranking.now n m room.old) }
     ensures room_after { room.new ≡ shortened_room ranking.now n m room.old }
 {
-    flat_writing(record_short_write::shorten(ranking, n, m, room))
+    record_short_write::shorten(ranking, n, m, room).into()
 }
 
 // Moves a ranking from kind 7 to kind 2.
@@ -182,7 +190,7 @@ pub extern "C" fn cushiedoo_lengthen(
     ensures value { result ≡ flat_writing (lengthens ranking.now n m room.old) }
     ensures room_after { room.new ≡ lengthened_room ranking.now n m room.old }
 {
-    flat_writing(record_short_write::lengthen(ranking, n, m, room))
+    record_short_write::lengthen(ranking, n, m, room).into()
 }
 
 // ---- verdicts
@@ -197,7 +205,7 @@ pub extern "C" fn cushiedoo_judge(
     ensures value { result ≡ flat_verdict (answered loopbytes.now certificate.now rank.old) }
     ensures rank_after { rank.new ≡ rank_answered loopbytes.now certificate.now rank.old }
 {
-    verdict_flat::flat_verdict(judge_by_kind::judge(loopbytes, certificate, rank))
+    judge_by_kind::judge(loopbytes, certificate, rank).into()
 }
 
 // Judges a job's certificates at once: the records laid end to end, each with the next n rank numbers as its rank list. C hands over a row
@@ -213,7 +221,7 @@ pub extern "C" fn cushiedoo_judge_all(
     ensures verdicts_after { verdicts.new ≡ rows_after loopbytes.now records.now verdicts.old ranks.old }
     ensures ranks_after { ranks.new ≡ ranks_after loopbytes.now records.now (length verdicts.old) ranks.old }
 {
-    flat_batch(judge_rows::judge_rows(loopbytes, records, verdicts, ranks))
+    judge_rows::judge_rows(loopbytes, records, verdicts, ranks).into()
 }
 
 // Tells how many steps a loop can take from a state, by a certificate that has a rank.
@@ -225,7 +233,7 @@ pub extern "C" fn cushiedoo_bound(
 ) -> FlatBounded
     ensures { result ≡ flat_bounded (bounded_answered loopbytes.now certificate.now state.now) }
 {
-    flat_bounded(bound_by_kind::bound(loopbytes, certificate, state))
+    bound_by_kind::bound(loopbytes, certificate, state).into()
 }
 
 // ---- the sheet
@@ -236,5 +244,5 @@ pub extern "C" fn cushiedoo_sheet(input: &[u8], text: &mut [u8]) -> FlatWriting
     ensures value { result ≡ flat_writing (sheet_answers input.now text.old) }
     ensures text_after { text.new ≡ text_after input.now text.old }
 {
-    flat_writing(sheet_write::sheet(input, text))
+    sheet_write::sheet(input, text).into()
 }
