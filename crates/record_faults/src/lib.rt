@@ -309,12 +309,18 @@ pub fn weights_fault(bytes: &[u8], place: usize, count: usize) -> Result<(), Fau
     multipliers_fault(bytes, place + 2, count)
 }
 
+// A row is a linear part; one whose entries have a fault is left at once, so that the way to the next row needs no second look.
 pub fn rows_fault(bytes: &[u8], place: usize, n: usize, count: usize) -> Result<(), Fault>
     requires { place + count * (4 * n + 4) ≤ length bytes.now }
     ensures { result ≡ result_of (run_told (rows_of n count) bytes.now place) tt }
 {
-    for i in 0..count {
-        linear_fault(bytes, place + (4 * n + 4) * i, 2 * n)?;
+    let mut row = place;
+    for _ in 0..count {
+        if !run_fits::<Entry>(bytes, row, 2 * n) {
+            return first_fault::<Entry>(bytes, row, 2 * n);
+        }
+        field_fault::<RightSide>(bytes, row + 4 * n)?;
+        row += 4 * n + 4;
     }
     Ok(())
 }

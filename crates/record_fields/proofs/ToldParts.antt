@@ -3,7 +3,7 @@
 use Rattle.std.specs.Prelude.{Ok, Err}
 use mathlib.Core.Path.{◌≡◌, refl, sym, ap, ◌∙◌}
 use Prim.Native.Nat.{ℕ, zero, suc, ◌+◌, ◌*◌, ◌-◌, ◌≤◌, ◌<◌}
-use mathlib.Core.Bool.{Bool, true, ◌&&◌}
+use mathlib.Core.Bool.{Bool, true, false, false≢true, ◌&&◌}
 use mathlib.Core.List.{List, [], ◌∷◌, ◌++◌, append_assoc, append-nil}
 use native.Mathlib.Numerals.{add-one}
 use native.Mathlib.Omega.{arith}
@@ -13,14 +13,14 @@ use Rattle.refusal.specs.Tests.{Told, done, refused, ◌then◌}
 use Rattle.refusal.specs.Faults.{result_of}
 use Rattle.refusal.specs.declared.Fault.{Fault}
 use Rattle.refusal.proofs.FaultLaws.{told_done, told_refused, gives, refuses, gives_then, refuses_then}
-use Rattle.refusal.proofs.TestLaws.{both_true}
+use Rattle.refusal.proofs.TestLaws.{either, never, both_true, true_both}
 use Rattle.record.specs.Fields.{width, Field, widths}
 use Rattle.record.specs.Layouts.{rows_of}
 use Rattle.record.specs.Ranges.{within}
 use Rattle.record.proofs.FieldLaws.{widths_append}
 use Rattle.record_fields.specs.Runs.{fits, all_fit, run_told, list_told, linear}
 use Rattle.record_fields.proofs.BodyParts.{row_is, widths_linear}
-use Rattle.record_fields.proofs.ToldFaults.{run_told-none, run_told-append, run_told-fits, list_told-none, list_told-append}
+use Rattle.record_fields.proofs.ToldFaults.{run_told-none, run_told-append, run_told-fits, run_told-out, list_told-none, list_told-append}
 
 -- ---- ways of telling of fields, whose first value stands at an index and whose first byte at a place
 
@@ -50,6 +50,15 @@ module _ {tell : List Field → ℕ → ℕ → Told} (t : Tells tell) (fs gs : 
   pub second_tells : (j end : ℕ) → j ≡ i + length fs → end ≡ at + widths fs → (x : Unit {0}) → Ok x ≡ result_of (tell fs i at) (tt {0})
       → result_of (tell gs j end) (tt {0}) ≡ result_of (tell (fs ++ gs) i at) (tt {0})
   second_tells j end from ends x h = rw (from, ends, t.append) (gives_then (tell fs i at) _ x tt tt h)
+
+  -- where the first is not, it is what it tells
+  pub first_stops : (tell fs i at ≡ done → ⊥) → result_of (tell fs i at) (tt {0}) ≡ result_of (tell (fs ++ gs) i at) (tt {0})
+  unfolding ◌then◌
+  first_stops some = rw t.append (by_told (tell fs i at) _ some)
+    where
+      by_told : (t u : Told) → (t ≡ done → ⊥) → result_of t (tt {0}) ≡ result_of (t then u) (tt {0})
+      by_told done u h = absurd (h refl)
+      by_told (refused k p) u h = refl
 
 -- ---- equal parts, one after another
 
@@ -113,6 +122,14 @@ module _ {part : List Field} {parts : ℕ → List Field} (r : Repeats part part
       pub parts_more : (x : Unit {0}) → Ok x ≡ result_of (tell part (i + long * k) (at + wide * k)) (tt {0}) → tell (parts (k + 1)) i at ≡ done
       parts_more x here = past_more k so_far (rw (sized, counted) (told_done _ _ _ here))
 
+      pub parts_stop : (count : ℕ) → k < count → (tell part (i + long * k) (at + wide * k) ≡ done → ⊥)
+          → result_of (tell part (i + long * k) (at + wide * k)) (tt {0}) ≡ result_of (tell (parts count) i at) (tt {0})
+      parts_stop count below some = by_told (tell part (i + long * k) (at + wide * k)) refl
+        where
+          by_told : (told : Told) → tell part (i + long * k) (at + wide * k) ≡ told → result_of told (tt {0}) ≡ result_of (tell (parts count) i at) (tt {0})
+          by_told done e = absurd (some e)
+          by_told (refused n p) e = ap (λ told. result_of told (tt {0})) (sym (past_out count k below so_far (rw (sized, counted) e)))
+
       pub parts_out : (count : ℕ) → k < count → (f : Fault) → Err f ≡ result_of (tell part (i + long * k) (at + wide * k)) (tt {0})
           → Err f ≡ result_of (tell (parts count) i at) (tt {0})
       parts_out count below f here = refuses _ (past_out count k below so_far (rw (sized, counted) (told_refused _ _ _ here)))
@@ -142,3 +159,23 @@ run_told-all f bytes place (suc k) h =
     let both = both_true (all_fit f bytes place k) (fits f bytes (place + width f.form * k)) h in
     ap (λ count. run_told (replicate count f) bytes place) (sym (add-one k))
     ∙ past_more (replicate_repeats f) (bytes_tell bytes) 0 place k (run_told-all f bytes place k both.0) (rw (one_wide f _ refl) (run_told-fits bytes f _ both.1))
+
+-- and one in which some field does not
+pub then_done : (t u : Told) → (t then u) ≡ done → (t ≡ done) × (u ≡ done)
+unfolding ◌then◌
+then_done done u h = (refl, h)
+then_done (refused k p) u h = absurd (never h)
+
+pub run_told-not_all : (f : Field) (bytes : List ℕ) (place count : ℕ) → all_fit f bytes place count ≡ false → run_told (replicate count f) bytes place ≡ done → ⊥
+unfolding all_fit
+run_told-not_all f bytes place zero h e = false≢true (sym h)
+run_told-not_all f bytes place (suc k) h e =
+    let one : replicate (suc k) f ≡ replicate k f ++ (f ∷ []) = ap (λ n. replicate n f) (sym (add-one k)) ∙ parts_add (replicate_repeats f) k 1 in
+    let end : widths (replicate k f) ≡ width f.form * k = rw (one_wide f _ refl) at (widths_parts (replicate_repeats f) k) in
+    let both = then_done _ _ (sym (ap (λ fs. run_told fs bytes place) one ∙ run_told-append bytes (replicate k f) (f ∷ []) place) ∙ e) in
+    either (all_fit f bytes place k)
+    (λ fit.
+    either (fits f bytes (place + width f.form * k))
+    (λ here. false≢true (sym h ∙ true_both _ _ fit here))
+    (λ out. never (sym (run_told-out bytes f (place + width f.form * k) out) ∙ rw end at both.1)))
+    (λ out. run_told-not_all f bytes place k out both.0)
