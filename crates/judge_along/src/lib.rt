@@ -51,15 +51,11 @@ impl RowTotals {
             × Adds most_along (entry_at rows.now first *ℤ right_at certificate.now w) self.now.sum result.now.sum
             × Adds most_along (entry_at rows.now second *ℤ right_at certificate.now w) self.next.sum result.next.sum }
     {
-        let under_v = self.v;
-        let under_u = self.u;
-        let now = self.now;
-        let next = self.next;
         RowTotals {
-            v: add_product(under_v, rows, first, certificate, v),
-            u: add_product(under_u, rows, second, certificate, u),
-            now: add_product(now, rows, first, certificate, w),
-            next: add_product(next, rows, second, certificate, w),
+            v: add_product(self.v, rows, first, certificate, v),
+            u: add_product(self.u, rows, second, certificate, u),
+            now: add_product(self.now, rows, first, certificate, w),
+            next: add_product(self.next, rows, second, certificate, w),
         }
     }
 }
@@ -107,13 +103,9 @@ pub fn along(rows: &[u8], row: usize, n: usize, certificate: &[u8], place: usize
         × (result.step ≡ step_of rows.now row n certificate.now place) × CanGrow result.step }
 {
     let sums = row_of(rows, row, n, certificate, place);
-    let v = sums.v;
-    let u = sums.u;
-    let now = sums.now;
-    let next = sums.next;
     LeftSides {
-        direction: v.sum + u.sum,
-        step: now.sum - v.sum + next.sum,
+        direction: sums.v.sum + sums.u.sum,
+        step: sums.now.sum - sums.v.sum + sums.next.sum,
     }
 }
 
@@ -123,8 +115,8 @@ pub fn rank_at(rank: &[i64], state: &[i64]) -> Total
     ensures { (result.sum ≡ dot rank.now state.now) × (nat_abs result.sum ≤ length rank.now * most_rank) }
 {
     let mut total = Total::new();
-    for j in 0..rank.len() {
-        total = total.plus(rank[j], state[j]);
+    for (r, x) in rank.iter().zip(state) {
+        total = total.plus(*r, *x);
     }
     total
 }
@@ -135,8 +127,8 @@ pub fn entries_at(bytes: &[u8], place: usize, state: &[i64]) -> Total
     ensures { SumOf (length state.now) most_state (state_term bytes.now place state.now) result.sum }
 {
     let mut total = Total::new();
-    for j in 0..state.len() {
-        total = total.plus(endian::i16_at(bytes, place + 2 * j), state[j]);
+    for (j, x) in state.iter().enumerate() {
+        total = total.plus(endian::i16_at(bytes, place + 2 * j), *x);
     }
     total
 }

@@ -57,11 +57,9 @@ impl Column {
         if multiplier == 0 {
             return self;
         }
-        let now = self.now;
-        let next = self.next;
         Column {
-            now: add_entry(now, multiplier, rows, first),
-            next: add_entry(next, multiplier, rows, second),
+            now: add_entry(self.now, multiplier, rows, first),
+            next: add_entry(self.next, multiplier, rows, second),
         }
     }
 }
@@ -101,9 +99,8 @@ pub fn add_lifted(sum: i64, multiplier: usize, rows: &[u8], place: usize) -> i64
     requires { CanGrow sum × (multiplier < 65536) × (place + 2 ≤ length rows.now) }
     ensures { Lifts multiplier (entry_at rows.now place) sum result }
 {
-    let total = Total { sum: sum };
-    let more = total.plus(multiplier as i64, endian::lifted_at(rows, place));
-    more.sum
+    let total = Total { sum };
+    total.plus(multiplier as i64, endian::lifted_at(rows, place)).sum
 }
 
 // One row more for two lists of totals: the row's entries are read in one visit, several at once,
@@ -153,11 +150,9 @@ impl Beside {
     {
         let lift = Total { sum: self.lift };
         let right = Total { sum: self.right };
-        let lifted = lift.plus(multiplier as i64, 32768);
-        let reached = add_right(right, multiplier, rows, place);
         Beside {
-            lift: lifted.sum,
-            right: reached.sum,
+            lift: lift.plus(multiplier as i64, 32768).sum,
+            right: add_right(right, multiplier, rows, place).sum,
         }
     }
 }
