@@ -100,7 +100,9 @@ pub fn add_lifted(sum: i64, multiplier: usize, rows: &[u8], place: usize) -> i64
     ensures { Lifts multiplier (entry_at rows.now place) sum result }
 {
     let total = Total { sum };
-    total.plus(multiplier as i64, endian::lifted_at(rows, place)).sum
+    total
+        .plus(multiplier as i64, endian::lifted_at(rows, place))
+        .sum
 }
 
 // One row more for two lists of totals: the row's entries are read in one visit, several at once,
