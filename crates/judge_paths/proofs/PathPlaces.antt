@@ -40,6 +40,3 @@ module _ (rows : List ℕ) (row n m : ℕ) (certificate : List ℕ) (place first
 
   pub earlier_in : (i : ℕ) → i < component → WeightsIn rows row n m certificate (place + 4 * m + 2 * m * i) (first + i * (4 * n + 8))
   earlier_in i below = weights_in (2 + i) i (place + 4 * m + 2 * m * i) (omega arith) (omega arith) (omega arith)
-
-  pub lists_fit : place + 4 * m ≤ length certificate
-  lists_fit = omega (arith, list_in 1 (omega arith))

@@ -15,10 +15,9 @@ use Rattle.theory.specs.WeightedRows.{Weighted, sum_of, times_v}
 use Rattle.theory_paths.specs.PathConditions.{every, weighs}
 use Rattle.theory_paths.proofs.PathLaws.{every_same}
 use Rattle.judge_sums.specs.Lists.{rights_from}
-use Rattle.judge_sums.specs.Places.{right_at, AllModest, TotalsOf}
-use Rattle.judge_sums.specs.Running.{CanGrow, Modest}
-use Rattle.judge_sums.proofs.LiftLaws.{column_in, sums_modest}
-use Rattle.judge_conditions.proofs.Totals.{now_is, next_is, right_is, lift_modest, can_grow}
+use Rattle.judge_sums.specs.Places.{right_at, TotalsOf}
+use Rattle.judge_sums.proofs.LiftLaws.{column_in}
+use Rattle.judge_conditions.proofs.Totals.{now_is, next_is, right_is}
 use Rattle.judge_paths.specs.PathByPlaces.{weighted_by, column_held, totals_held}
 
 -- ---- tests at every place
@@ -54,14 +53,6 @@ right_at_lem bytes place n j below = tabulate_at n (λ j. right_at bytes (place 
 
 module _ (rows : List ℕ) (row n m : ℕ) (certificate : List ℕ) (place r next : ℕ) (limit : ℤ) (few : m ≤ 64) (sums : List ℤ) (lift right : ℤ)
     (totals : TotalsOf certificate place rows row n m sums lift right) where
-  -- their sizes
-  pub sizes : AllModest (2 * n) sums × Modest lift × CanGrow right
-  sizes = (
-    sums_modest certificate place rows row n m sums totals.columns (omega arith),
-    lift_modest m _ lift (omega arith) totals.beside.lift_sum,
-    can_grow m 140735340871680 _ right (omega arith) (omega arith) totals.beside.right_sum,
-  )
-
   abbrev w : Weighted
   w = weighted_by rows row n m certificate place r next limit
 

@@ -7,18 +7,13 @@ use native.Mathlib.Omega.{arith}
 use lib.IntN.{ℤ, pos}
 use lib.ListN.{length}
 use Rattle.endian.specs.Numbers.{little_at}
-use Rattle.judge_sums.specs.Places.{entry_at, right_at, multiplier_at, row_place, now_term, next_term, right_term, lift_term, RowsIn, Visited, ColumnOf, Sided, BesideOf, most_entry, most_right}
-use Rattle.judge_sums.specs.Running.{CanGrow}
+use Rattle.judge_sums.specs.Places.{right_at, multiplier_at, row_place, now_term, next_term, right_term, lift_term, RowsIn, Visited, ColumnOf, Sided, BesideOf, most_entry, most_right}
 use Rattle.judge_sums.proofs.RunningLaws.{sum_none, sum_more, adds_nothing}
 
 pub row_inside : (bytes : List ℕ) (start n count i : ℕ) → RowsIn bytes start n count → i < count → row_place start n (i + 1) ≤ length bytes
 row_inside bytes start n count i rows below = omega (arith, rows.inside, mul-le-mul_right (4 * n + 4) below)
 
--- a row without weight: for a column's totals, and for those beside the columns
-pub visited_nothing : (multiplier : ℕ) (rows : List ℕ) (first second : ℕ) (now next : ℤ) → multiplier ≡ 0 → Visited multiplier rows first second now next now next
-visited_nothing multiplier rows first second now next none =
-    record { now_adds = adds_nothing most_entry none (entry_at rows first) now; next_adds = adds_nothing most_entry none (entry_at rows second) next }
-
+-- a row without weight
 pub sided_nothing : (multiplier : ℕ) (rows : List ℕ) (place : ℕ) (lift right : ℤ) → multiplier ≡ 0 → Sided multiplier rows place lift right lift right
 sided_nothing multiplier rows place lift right none =
     record { lift_adds = adds_nothing most_entry none (pos 32768) lift; right_adds = adds_nothing most_right none (right_at rows place) right }
@@ -61,7 +56,3 @@ module _ (multipliers : List ℕ) (place : ℕ) (rows : List ℕ) (start n : ℕ
         lift_sum = sum_more most_entry (lift_term multipliers place) i h.lift_sum (rw read at more.lift_adds);
         right_sum = sum_more most_right (right_term multipliers place rows start n) i h.right_sum (rw (read, here) at more.right_adds);
       }
-
-  -- both can take a row more
-  pub beside_grows : (count : ℕ) {lift right : ℤ} → count < 16384 → BesideOf multipliers place rows start n count lift right → CanGrow lift × CanGrow right
-  beside_grows count few h = (omega (arith, h.lift_sum.small), omega (arith, h.right_sum.small))

@@ -28,9 +28,6 @@ passed_grows s h = rw (grown s h) h
 -- ---- one row, entry by entry
 
 module _ (grows : ℕ → ℤ → ℤ → Type 0) (before : List ℤ) where
-  pub row_none : Grown grows 0 before before
-  row_none = record { long = refl; added = λ k h. absurd (omega arith); stays = λ k h. refl }
-
   pub row_more : (k : ℕ) (mid : List ℤ) (value : ℤ) → Grown grows k before mid → k < length before
       → grows k (get_or mid k (pos 0)) value → Grown grows (k + 1) before (set mid k value)
   row_more k mid value h below more =
@@ -63,15 +60,12 @@ module _ (multiplier : ℕ) (rows : List ℕ) (row : ℕ) (before : List ℤ) wh
 
 -- ---- all rows
 
--- what stays past the columns: through no row, through one row more, and from one step to the next
+-- what stays past the columns: through no row, and through one row more
 pub rest_none : (width : ℕ) (sums : List ℤ) → RestStays width sums sums
 rest_none width sums = record { long = refl; stays = λ k h. refl }
 
 pub rest_more : {grows : ℕ → ℤ → ℤ → Type 0} {width : ℕ} {first before after : List ℤ} → RestStays width first before → Grown grows width before after → RestStays width first after
 rest_more rest row = record { long = row.long ∙ rest.long; stays = λ k h. row.stays k h ∙ rest.stays k h }
-
-pub rest_on : {width : ℕ} {first before after : List ℤ} → RestStays width first before → RestStays width before after → RestStays width first after
-rest_on rest more = record { long = more.long ∙ rest.long; stays = λ k h. more.stays k h ∙ rest.stays k h }
 
 module _ (multipliers : List ℕ) (place : ℕ) (rows : List ℕ) (start n : ℕ) where
   -- the lifts' total over the first rows
@@ -129,9 +123,6 @@ module _ (multipliers : List ℕ) (place : ℕ) (rows : List ℕ) (start n : ℕ
 
   pub sums_modest : (count : ℕ) (sums : List ℤ) → SumsOf multipliers place rows start n count sums → count < 16384 → AllModest (2 * n) sums
   sums_modest count sums h few k below = omega (arith, sums_size count sums h k below)
-
-  pub sums_grow : (count : ℕ) (sums : List ℤ) → SumsOf multipliers place rows start n count sums → count < 16384 → AllGrow (2 * n) sums
-  sums_grow count sums h few k below = omega (arith, sums_modest count sums h few k below)
 
   -- entry n + j of a row is entry j of A'
   over_next : (count j : ℕ) (z : ℤ) → SumOf count most_entry (entry_term multipliers place rows start n (n + j)) z → SumOf count most_entry (next_term multipliers place rows start n j) z

@@ -1,15 +1,14 @@
--- All totals under one list of multipliers, row by row. A loop that carries them has the invariant `TotalsOf .. i ..`: it starts by `totals_none`, each turn is
--- kept by `totals_more`, or by `totals_weightless`, and `totals_grow` says that there is room for the next row.
+-- All totals under one list of multipliers, row by row. A loop that carries them has the invariant `TotalsOf .. i ..`: it starts by `totals_none`, and each turn is
+-- kept by `totals_more`, or by `totals_weightless`.
 use Prim.Native.Nat.{ℕ, ◌+◌, ◌*◌, ◌<◌}
 use mathlib.Core.Path.{◌≡◌}
 use mathlib.Core.List.{List}
 use native.Mathlib.Omega.{arith}
 use lib.IntN.{ℤ, pos}
 use Rattle.endian.specs.Numbers.{little_at}
-use Rattle.judge_sums.specs.Places.{row_place, RowAdded, AllGrow, AllNone, Sided, TotalsOf}
-use Rattle.judge_sums.specs.Running.{CanGrow}
-use Rattle.judge_sums.proofs.ColumnLaws.{beside_none, beside_more, beside_grows, sided_nothing}
-use Rattle.judge_sums.proofs.LiftLaws.{row_weightless, sums_none, sums_more, sums_grow}
+use Rattle.judge_sums.specs.Places.{row_place, RowAdded, AllNone, Sided, TotalsOf}
+use Rattle.judge_sums.proofs.ColumnLaws.{beside_none, beside_more, sided_nothing}
+use Rattle.judge_sums.proofs.LiftLaws.{row_weightless, sums_none, sums_more}
 
 module _ (multipliers : List ℕ) (place : ℕ) (rows : List ℕ) (start n : ℕ) where
   pub totals_none : (sums : List ℤ) {lift right : ℤ} → AllNone (2 * n) sums → (lift ≡ pos 0) × (right ≡ pos 0) → TotalsOf multipliers place rows start n 0 sums lift right
@@ -31,9 +30,3 @@ module _ (multipliers : List ℕ) (place : ℕ) (rows : List ℕ) (start n : ℕ
   totals_weightless i multiplier at sums {lift} {right} h read none here =
       totals_more i multiplier at h read (omega arith) here (row_weightless multiplier rows at sums (2 * n) none)
       (sided_nothing multiplier rows (at + 4 * n) lift right none)
-
-  pub totals_grow : (i : ℕ) {sums : List ℤ} {lift right : ℤ} → TotalsOf multipliers place rows start n i sums lift right → i < 16384
-      → AllGrow (2 * n) sums × CanGrow lift × CanGrow right
-  totals_grow i {sums} h few =
-      let beside = beside_grows multipliers place rows start n i few h.beside in
-      (sums_grow multipliers place rows start n i sums h.columns few, beside.0, beside.1)
