@@ -1,10 +1,10 @@
 -- A room that is written from its first byte on, part after part, and a part of it that is filled with zeros.
 use mathlib.Core.Path.{◌≡◌, sym, ap, ◌∙◌}
-use Prim.Native.Nat.{ℕ, suc, ◌+◌, ◌<◌}
-use mathlib.Core.List.{List, ◌++◌, append_assoc, append-nil}
+use Prim.Native.Nat.{ℕ, ◌+◌, ◌-◌, ◌≤◌}
+use mathlib.Core.List.{List, ◌++◌, append_assoc}
 use native.Mathlib.Omega.{arith}
-use lib.ListN.{length, set, take, drop, replicate, length-append, length-replicate, take-append-drop, replicate-append-replicate}
-use lib.Seq.{length-take-le, drop-cons, take_at, drop_at, drop-drop, set_at}
+use lib.ListN.{length, take, drop, replicate, length-append, length-drop}
+use lib.Seq.{length-take-le, take_at, drop_at, drop-drop}
 
 -- ---- part after part
 
@@ -23,20 +23,10 @@ module _ (room : List ℕ) where
 
 -- ---- zeros
 
-pub zeros_none : (d : List ℕ) (place : ℕ) → d ≡ take place d ++ replicate 0 0 ++ drop (place + 0) d
-zeros_none d place = let none : place + 0 ≡ place = omega arith in rw (none, append-nil) (sym (take-append-drop place d))
-
-pub zeros_more : (d : List ℕ) (place i : ℕ) → place + i < length d
-    → set (take place d ++ replicate i 0 ++ drop (place + i) d) (place + i) 0 ≡ take place d ++ replicate (i + 1) 0 ++ drop (place + (i + 1)) d
-zeros_more d place i below =
-    let front : length (take place d ++ replicate i 0) ≡ place + i
-    = rw (length-append, length-take-le place d (omega arith), length-replicate) in
-    let next : place + (i + 1) ≡ suc (place + i) = omega arith in
-    rw (
-      drop-cons d (place + i) 0 below,
-      set_at (take place d ++ replicate i 0) _ (drop (suc (place + i)) d) 0 (place + i) front,
-      next,
-      ← replicate-append-replicate {A = ℕ} i 1 0,
-      ← append_assoc (take place d) (replicate i 0) (replicate 1 0),
-      append_assoc (take place d ++ replicate i 0) (replicate 1 0) _,
-    )
+pub zeros_put : (room zeros : List ℕ) (place count : ℕ) → place + count ≤ length room
+    → zeros ≡ replicate (length (take (place + count - place) (drop place room))) 0
+    → take place room ++ (zeros ++ drop (place + count - place) (drop place room)) ≡ take place room ++ replicate count 0 ++ drop (place + count) room
+zeros_put room zeros place count fits filled =
+    let wide : place + count - place ≡ count = omega arith in
+    let long : length (take count (drop place room)) ≡ count = length-take-le count (drop place room) (omega (arith, length-drop place room)) in
+    rw (filled, wide, long, drop-drop) (sym (append_assoc (take place room) (replicate count 0) (drop (place + count) room)))

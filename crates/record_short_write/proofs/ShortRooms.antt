@@ -1,48 +1,47 @@
 -- The triples of the rows that have weight, one after another, make the short record of a kind 2 one.
 use mathlib.Core.Path.{◌≡◌, refl, sym, ap, ◌∙◌}
-use Prim.Native.Nat.{ℕ, ◌+◌, ◌*◌, ◌≤◌}
-use mathlib.Core.Bool.{Bool, ◌&&◌}
-use mathlib.Core.List.{List, [], ◌∷◌, ◌++◌, append_assoc, append-nil}
+use Prim.Native.Nat.{ℕ, zero, suc, ◌+◌, ◌*◌, ◌≤◌}
+use mathlib.Core.Bool.{Bool, true, false, not, cond, ◌&&◌, false≢true}
+use mathlib.Core.List.{List, [], ◌∷◌, ◌++◌, map, append_assoc, append-nil}
 use native.Mathlib.Numerals.{add-one}
 use native.Mathlib.Omega.{arith}
 use lib.Dec.{eqb}
 use lib.ListN.{length, take, drop, length-append, take-append-drop}
 use lib.Seq.{length-take-le}
 use borrow.Author.Tests.{eq-eqb, ne_eqb}
+use Rattle.std.specs.List.{filter, range_with_len}
+use Rattle.std.proofs.lemmas.List.{map-id}
+use Rattle.std.proofs.lemmas.List.FromFn.{filter_of_map_range_with_len_more}
 use Rattle.endian.specs.Numbers.{little_at, digits}
 use Rattle.endian.proofs.Laws.{length_digits}
 use Rattle.refusal.proofs.TestLaws.{either}
 use Rattle.record_short.specs.Conversions.{long_Y, long_Z, rows_with_weight, triples_bytes, triples_needed, short_bytes}
 use Rattle.record_short.proofs.ShortBytes.{triples_append, length_triples}
-use Rattle.record_short_write.specs.Rooms.{listed, with_row, with_rows}
+use Rattle.record_short_write.specs.Rooms.{row_weighs, listed, with_row, with_rows}
 use Rattle.record_short_write.proofs.RoomLaws.{Begun, begun_more}
 
 -- ---- one row
 
 module _ (m : ℕ) (bytes : List ℕ) (i : ℕ) where
+  pub weighs_by_Y : (y : ℕ) → y ≡ little_at 2 bytes (6 + 2 * i) → (y ≡ 0 → ⊥) → true ≡ row_weighs m bytes i
+  unfolding row_weighs long_Y
+  weighs_by_Y y read some = rw (← read, ne_eqb _ _ some)
+
+  pub weighs_by_Z : (y z : ℕ) → y ≡ little_at 2 bytes (6 + 2 * i) → z ≡ little_at 2 bytes (6 + 2 * m + 2 * i) → y ≡ 0 → not (eqb z 0) ≡ row_weighs m bytes i
+  unfolding row_weighs long_Y long_Z
+  weighs_by_Z y z y-read z-read none = rw (← y-read, ← z-read, eq-eqb _ _ none)
+
+  -- what the weight says
   abbrev without_weight : Bool
   without_weight = eqb (long_Y bytes i) 0 && eqb (long_Z m bytes i) 0
 
-  pub listed_by_Y : (y : ℕ) → y ≡ little_at 2 bytes (6 + 2 * i) → (y ≡ 0 → ⊥) → listed m bytes i ≡ i ∷ []
-  unfolding listed long_Y
-  listed_by_Y y read some = rw (← read, ne_eqb _ _ some)
+  pub none_listed : row_weighs m bytes i ≡ false → listed m bytes i ≡ []
+  unfolding row_weighs listed
+  none_listed h = either without_weight (λ e. rw e) (λ e. absurd (false≢true (sym (rw e at h))))
 
-  pub listed_by_Z : (y z : ℕ) → y ≡ little_at 2 bytes (6 + 2 * i) → z ≡ little_at 2 bytes (6 + 2 * m + 2 * i) → y ≡ 0 → (z ≡ 0 → ⊥) → listed m bytes i ≡ i ∷ []
-  unfolding listed long_Y long_Z
-  listed_by_Z y z y-read z-read none some = rw (← y-read, ← z-read, eq-eqb _ _ none, ne_eqb _ _ some)
-
-  pub unlisted : (y z : ℕ) → y ≡ little_at 2 bytes (6 + 2 * i) → z ≡ little_at 2 bytes (6 + 2 * m + 2 * i) → y ≡ 0 → z ≡ 0 → listed m bytes i ≡ []
-  unfolding listed long_Y long_Z
-  unlisted y z y-read z-read y-none z-none = rw (← y-read, ← z-read, eq-eqb _ _ y-none, eq-eqb _ _ z-none)
-
-  -- what a count of 0 or 1 says
-  pub none_listed : length (listed m bytes i) ≡ 0 → listed m bytes i ≡ []
-  unfolding listed
-  none_listed h = either without_weight (λ e. rw e) (λ e. absurd (omega (arith, rw e at h)))
-
-  pub one_listed : (length (listed m bytes i) ≡ 0 → ⊥) → listed m bytes i ≡ i ∷ []
-  unfolding listed
-  one_listed h = either without_weight (λ e. absurd (h (rw e))) (λ e. rw e)
+  pub one_listed : row_weighs m bytes i ≡ true → listed m bytes i ≡ i ∷ []
+  unfolding row_weighs listed
+  one_listed h = either without_weight (λ e. absurd (false≢true (rw e at h))) (λ e. rw e)
 
   -- nothing is put of a row without weight
   pub row_stays : (at : ℕ) (room : List ℕ) → listed m bytes i ≡ [] → room ≡ with_row m bytes i at room
@@ -70,6 +69,20 @@ module _ (m : ℕ) (bytes : List ℕ) (i : ℕ) where
       third ∙ rw (three_long, joined, one, ← y-read, ← z-read)
 
 -- ---- all rows
+
+one_filtered : (m : ℕ) (bytes : List ℕ) (i : ℕ) → cond (eqb (long_Y bytes i) 0 && eqb (long_Z m bytes i) 0) [] (i ∷ []) ≡ cond (row_weighs m bytes i) (i ∷ []) []
+unfolding row_weighs
+one_filtered m bytes i = either (without_weight m bytes i) (λ e. rw e) (λ e. rw e)
+
+rows_in_order : (m : ℕ) (bytes : List ℕ) (count : ℕ) → rows_with_weight m bytes count ≡ filter (row_weighs m bytes) (map (λ i. i) (range_with_len 0 count))
+unfolding rows_with_weight
+rows_in_order m bytes zero = refl
+rows_in_order m bytes (suc count) =
+    rw (rows_in_order m bytes count, one_filtered m bytes count)
+    (sym (rw add-one at (filter_of_map_range_with_len_more (row_weighs m bytes) (λ i. i) 0 count count (omega arith))))
+
+pub rows_filtered : (m : ℕ) (bytes : List ℕ) (count : ℕ) → rows_with_weight m bytes count ≡ filter (row_weighs m bytes) (range_with_len 0 count)
+rows_filtered m bytes count = rows_in_order m bytes count ∙ ap (filter (row_weighs m bytes)) (map-id (range_with_len 0 count))
 
 rows_joined : (m : ℕ) (bytes front : List ℕ) (i : ℕ)
     → front ++ triples_bytes m bytes (rows_with_weight m bytes i) ++ triples_bytes m bytes (listed m bytes i)

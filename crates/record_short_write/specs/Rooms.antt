@@ -1,14 +1,16 @@
 -- What the parts of the two calls answer and leave in a room; the calls themselves answer by `Conversions` of `record_short`.
-use Rattle.std.specs.Prelude.{ℕ, zero, suc, ◌+◌, ◌*◌, ◌≤◌, ◌<◌, ◌≡◌, cond, ◌&&◌, List, [], ◌∷◌, ◌++◌, eqb, length, take, drop}
+use Rattle.std.specs.Prelude.{ℕ, zero, suc, ◌+◌, ◌*◌, ◌≤◌, ◌<◌, ◌≡◌, Bool, cond, not, ◌&&◌, List, [], ◌∷◌, ◌++◌, eqb, length, take, drop, Result, Ok, Err}
 use Rattle.endian.specs.Numbers.{digits}
+use Rattle.refusal.specs.declared.Fault.{Fault}
 use Rattle.refusal.specs.Places.{Throughout}
 use Rattle.record.specs.declared.Writing.{Writing}
 use Rattle.record_short.specs.Conversions.{long_Y, long_Z, rows_with_weight, triples_bytes}
 use Rattle.record_short.specs.ShortRecords.{triples_in, row_in, Y-in, Z-in}
 
--- a refusal: nothing is written
-abbrev pub refusal : ℕ → ℕ → Writing
-refusal number place = record { number = number; place = place; written = 0 }
+-- what a call answers: the bytes written, or a refusal
+unfoldable pub written_of : Result ℕ Fault → Writing
+written_of (Ok written) = record { number = 0; place = 0; written = written }
+written_of (Err fault) = record { number = fault.number; place = fault.place; written = 0 }
 
 -- ---- kind 7 to kind 2
 
@@ -32,6 +34,10 @@ pub record Lengthens (m : ℕ) (bytes : List ℕ) : Type 0 where
   pub rows_below : Throughout (triples_in bytes) (λ k. row_in bytes k < m)
 
 -- ---- kind 2 to kind 7
+
+-- row i has weight
+unfoldable pub row_weighs : ℕ → List ℕ → ℕ → Bool
+row_weighs m bytes i = not (eqb (long_Y bytes i) 0 && eqb (long_Z m bytes i) 0)
 
 -- row i, if it has weight
 unfoldable pub listed : ℕ → List ℕ → ℕ → List ℕ

@@ -2,39 +2,42 @@
 // has no room, is refused and changes no byte. `lengthen_into` also serves whoever needs the kind 2 record of a short one that is sound.
 #![tactic(auto)]
 
-ghost use Rattle.std.specs.Prelude.{ℕ, ◌+◌, ◌*◌, ◌≤◌, ◌<◌, ◌≡◌, ◌++◌, length, take, drop, replicate};
+ghost use Rattle.std.specs.Prelude.{ℕ, ◌+◌, ◌*◌, ◌≤◌, ◌<◌, ◌≡◌, ◌++◌, length, drop};
+ghost use Rattle.refusal.specs.Faults.{result_of};
 ghost use Rattle.record_short.specs.Conversions.{triples_needed, short_bytes};
-ghost use Rattle.record_short.specs.Conversions.{shortens, shortened_room, lengthens, lengthened_room};
+ghost use Rattle.record_short.specs.Conversions.{shortening_told, shortens, shortened_room};
+ghost use Rattle.record_short.specs.Conversions.{lengthening_told, lengthens, lengthened_room};
 ghost use Rattle.record_short.specs.ShortRecords.{triples_in, long_bytes};
-ghost use Rattle.record_short_write.specs.Rooms.{refusal, with_triple, with_triples, listed, with_row, with_rows, Lengthens, Lists};
+ghost use Rattle.record_short_write.specs.Rooms.{with_triple, with_triples, Lengthens};
+ghost use Rattle.record_short_write.specs.Rooms.{row_weighs, listed, with_row, with_rows, Lists};
+ghost use Rattle.record_short_write.specs.Rooms.{written_of};
 
-use record::Writing;
+use record::{Wanted, Writing};
+use refusal::{Fault, refused};
 
-fn refused(number: usize, place: usize) -> Writing
-    ensures { result ≡ refusal number place }
+fn writing(done: Result<usize, Fault>) -> Writing
+    ensures { result ≡ written_of done }
 {
-    Writing {
-        number: number,
-        place: place,
-        written: 0,
+    match done {
+        Ok(written) => Writing {
+            number: 0,
+            place: 0,
+            written,
+        },
+        Err(fault) => Writing {
+            number: fault.number,
+            place: fault.place,
+            written: 0,
+        },
     }
 }
 
 // ---- kind 7 to kind 2: zeros for every row, and then the triples, each at its row's places
 
-fn put_zeros(room: &mut [u8], place: usize, count: usize)
-    requires { place + count ≤ length room.old }
-    ensures { room.new ≡ take place room.old ++ replicate count 0 ++ drop (place + count) room.old }
-{
-    for i in 0..count {
-        room[place + i] = 0;
-    }
-}
-
 fn put_triple(bytes: &[u8], m: usize, k: usize, room: &mut [u8])
-    requires fact_1 { Lengthens m bytes.now }
-    requires fact_2 { k < triples_in bytes.now }
-    requires fact_3 { 6 + 4 * m ≤ length room.old }
+    requires sound { Lengthens m bytes.now }
+    requires inside { k < triples_in bytes.now }
+    requires roomy { 6 + 4 * m ≤ length room.old }
     ensures { room.new ≡ with_triple m bytes.now k room.old }
 {
     let at = 8 + 6 * k;
@@ -46,8 +49,8 @@ fn put_triple(bytes: &[u8], m: usize, k: usize, room: &mut [u8])
 }
 
 fn put_triples(bytes: &[u8], m: usize, room: &mut [u8])
-    requires fact_1 { Lengthens m bytes.now }
-    requires fact_2 { 6 + 4 * m ≤ length room.old }
+    requires sound { Lengthens m bytes.now }
+    requires roomy { 6 + 4 * m ≤ length room.old }
     ensures { room.new ≡ with_triples m bytes.now (triples_in bytes.now) room.old }
 {
     let count = endian::u16_at(bytes, 6);
@@ -58,14 +61,28 @@ fn put_triples(bytes: &[u8], m: usize, room: &mut [u8])
 
 // The kind 2 record of a short one, for a loop of m rows.
 pub fn lengthen_into(bytes: &[u8], m: usize, room: &mut [u8])
-    requires fact_1 { Lengthens m bytes.now }
-    requires fact_2 { 6 + 4 * m ≤ length room.old }
+    requires sound { Lengthens m bytes.now }
+    requires roomy { 6 + 4 * m ≤ length room.old }
     ensures { (n : ℕ) → room.new ≡ long_bytes n m bytes.now ++ drop (6 + 4 * m) room.old }
 {
     endian::put_u32(room, 0, 2 + 4 * m);
     endian::put_u16(room, 4, 2);
-    put_zeros(room, 6, 4 * m);
+    room[6..6 + 4 * m].fill(0);
     put_triples(bytes, m, room);
+}
+
+// How many bytes were written.
+fn lengthened(bytes: &[u8], n: usize, m: usize, room: &mut [u8]) -> Result<usize, Fault>
+    ensures value { result ≡ result_of (lengthening_told bytes.now n m room.old) (6 + 4 * m) }
+    ensures left { room.new ≡ lengthened_room bytes.now n m room.old }
+{
+    record_short_check::check_short(bytes, n, m)?;
+    let long = 6 + 4 * m;
+    if room.len() < long {
+        return refused(7, long);
+    }
+    lengthen_into(bytes, m, room);
+    Ok(long)
 }
 
 // Writes the kind 2 record of a short one: the first bytes of the room hold it afterwards.
@@ -73,59 +90,35 @@ pub fn lengthen(bytes: &[u8], n: usize, m: usize, room: &mut [u8]) -> Writing
     ensures value { result ≡ lengthens bytes.now n m room.old }
     ensures room_after { room.new ≡ lengthened_room bytes.now n m room.old }
 {
-    let found = record_short_check::check_short(bytes, n, m);
-    if found.number != 0 {
-        return refused(found.number, found.place);
-    }
-    let long = 6 + 4 * m;
-    if room.len() < long {
-        return refused(7, long);
-    }
-    lengthen_into(bytes, m, room);
-    Writing {
-        number: 0,
-        place: 0,
-        written: long,
-    }
+    writing(lengthened(bytes, n, m, room))
 }
 
 // ---- kind 2 to kind 7: the rows that have weight, counted and then written one after another
 
-// 1 for a row that has weight, else 0.
-fn counted(bytes: &[u8], m: usize, i: usize) -> usize
-    requires fact_1 { Lists m bytes.now }
-    requires fact_2 { i < m }
-    ensures { result ≡ length (listed m bytes.now i) }
+fn has_weight(bytes: &[u8], m: usize, i: usize) -> bool
+    requires sound { Lists m bytes.now }
+    requires inside { i < m }
+    ensures { result ≡ row_weighs m bytes.now i }
 {
-    if endian::u16_at(bytes, 6 + 2 * i) != 0 {
-        return 1;
-    }
-    if endian::u16_at(bytes, 6 + 2 * m + 2 * i) != 0 {
-        return 1;
-    }
-    0
+    endian::u16_at(bytes, 6 + 2 * i) != 0 || endian::u16_at(bytes, 6 + 2 * m + 2 * i) != 0
 }
 
 fn rows_counted(bytes: &[u8], m: usize) -> usize
     requires { Lists m bytes.now }
     ensures { result ≡ triples_needed m bytes.now }
 {
-    let mut count = 0;
-    for i in 0..m {
-        count += counted(bytes, m, i);
-    }
-    count
+    (0..m).filter(|i| has_weight(bytes, m, *i)).count()
 }
 
 // The triple of row i at a place, if it has weight; where the next one goes.
 fn put_row(bytes: &[u8], m: usize, i: usize, room: &mut [u8], at: usize) -> usize
-    requires fact_1 { Lists m bytes.now }
-    requires fact_2 { i < m }
-    requires fact_3 { at + 6 * length (listed m bytes.now i) ≤ length room.old }
+    requires sound { Lists m bytes.now }
+    requires inside { i < m }
+    requires roomy { at + 6 * length (listed m bytes.now i) ≤ length room.old }
     ensures value { result ≡ at + 6 * length (listed m bytes.now i) }
     ensures room_after { room.new ≡ with_row m bytes.now i at room.old }
 {
-    if counted(bytes, m, i) == 0 {
+    if !has_weight(bytes, m, i) {
         return at;
     }
     let y = endian::u16_at(bytes, 6 + 2 * i);
@@ -137,8 +130,8 @@ fn put_row(bytes: &[u8], m: usize, i: usize, room: &mut [u8], at: usize) -> usiz
 }
 
 fn put_rows(bytes: &[u8], m: usize, room: &mut [u8])
-    requires fact_1 { Lists m bytes.now }
-    requires fact_2 { 8 + 6 * triples_needed m bytes.now ≤ length room.old }
+    requires sound { Lists m bytes.now }
+    requires roomy { 8 + 6 * triples_needed m bytes.now ≤ length room.old }
     ensures { room.new ≡ with_rows m bytes.now m room.old }
 {
     let mut at = 8;
@@ -148,9 +141,9 @@ fn put_rows(bytes: &[u8], m: usize, room: &mut [u8])
 }
 
 fn shorten_into(bytes: &[u8], m: usize, count: usize, room: &mut [u8])
-    requires fact_1 { Lists m bytes.now }
-    requires fact_2 { count ≡ triples_needed m bytes.now }
-    requires fact_3 { 8 + 6 * count ≤ length room.old }
+    requires sound { Lists m bytes.now }
+    requires counted { count ≡ triples_needed m bytes.now }
+    requires roomy { 8 + 6 * count ≤ length room.old }
     ensures { room.new ≡ short_bytes m bytes.now ++ drop (8 + 6 * count) room.old }
 {
     endian::put_u32(room, 0, 4 + 6 * count);
@@ -159,24 +152,30 @@ fn shorten_into(bytes: &[u8], m: usize, count: usize, room: &mut [u8])
     put_rows(bytes, m, room);
 }
 
-// Writes a ranking of kind 2 as a short one: the first bytes of the room hold it afterwards.
-pub fn shorten(bytes: &[u8], n: usize, m: usize, room: &mut [u8]) -> Writing
-    ensures value { result ≡ shortens bytes.now n m room.old }
-    ensures room_after { room.new ≡ shortened_room bytes.now n m room.old }
+// How many bytes were written.
+fn shortened(bytes: &[u8], n: usize, m: usize, room: &mut [u8]) -> Result<usize, Fault>
+    ensures value { result ≡ result_of (shortening_told bytes.now n m room.old) (8 + 6 * triples_needed m bytes.now) }
+    ensures left { room.new ≡ shortened_room bytes.now n m room.old }
 {
-    let found = record_check::check_ranking(bytes, n, m);
-    if found.number != 0 {
-        return refused(found.number, found.place);
-    }
+    let rankings = Wanted {
+        ranking: true,
+        exclusion: false,
+        lasso: false,
+    };
+    record_check::check_certificate(bytes, n, m, rankings)?;
     let count = rows_counted(bytes, m);
     let long = 8 + 6 * count;
     if room.len() < long {
         return refused(7, long);
     }
     shorten_into(bytes, m, count, room);
-    Writing {
-        number: 0,
-        place: 0,
-        written: long,
-    }
+    Ok(long)
+}
+
+// Writes a ranking of kind 2 as a short one: the first bytes of the room hold it afterwards.
+pub fn shorten(bytes: &[u8], n: usize, m: usize, room: &mut [u8]) -> Writing
+    ensures value { result ≡ shortens bytes.now n m room.old }
+    ensures room_after { room.new ≡ shortened_room bytes.now n m room.old }
+{
+    writing(shortened(bytes, n, m, room))
 }
