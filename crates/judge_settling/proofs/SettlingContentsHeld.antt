@@ -1,11 +1,13 @@
 -- Sound records hold, by places, the loop and the settling of crate `verdict_settling`; so what the conditions' code tells of the places it
 -- tells of the records.
+use Rattle.std.specs.Prelude.{Result}
 use mathlib.Core.Path.{◌≡◌, sym}
 use Prim.Native.Nat.{ℕ, suc}
 use mathlib.Core.List.{List}
 use native.Mathlib.Numerals.{add-one}
 use native.Mathlib.Omega.{arith}
 use lib.IntN.{ℤ}
+use Rattle.refusal.specs.declared.Fault.{Fault}
 use Rattle.record_settling.specs.SettlingRecords.{g_place, t_place, E-place, Y-place, Z-place}
 use Rattle.record_settling.proofs.SettlingSound.{SettlingSound}
 use Rattle.theory_settling.specs.Settlings.{longer}
@@ -60,7 +62,7 @@ module _ (loopbytes certificate : List ℕ) (n m : ℕ) (l : LoopSound loopbytes
       record { n_few = n_few loopbytes n m l; m_few = m_few loopbytes n m l; inside = omega (arith, c.long) }
 
   -- what is told of the places is told of the records
-  pub settling_told : (r : Ranked) (before after : List ℤ)
+  pub settling_told : (r : Result Ranked Fault) (before after : List ℤ)
       → SettlingBy r (loop_held loopbytes first_row n m) (settling_held certificate n m) before after
       → (let p = pair_of loopbytes certificate in
       RankedBy r (conditions_told p) (longer (loop_of p) (settling_of p)) (settling_of p).ranking before after)

@@ -3,7 +3,7 @@
 #![tactic(auto)]
 
 ghost use Rattle.std.specs.Prelude.{◌≡◌, ◌≤◌, length};
-ghost use Rattle.refusal.specs.Faults.{fault_of};
+ghost use Rattle.refusal.specs.Faults.{result_of};
 ghost use Rattle.theory.specs.Conditions.{weighed_told};
 ghost use Rattle.theory_settling.specs.Settlings.{rising};
 ghost use Rattle.judge_sums.specs.Places.{RowsIn};
@@ -12,30 +12,26 @@ ghost use Rattle.judge_settling.specs.SettlingBy.{SettlingBy};
 ghost use Rattle.judge_settling.specs.SettlingHeld.{SettlingIn, settling_held};
 
 use judge_ranking::Ranked;
+use judge_weighed::Held;
 use refusal::Fault;
 
 // The rise: EA = k g, EA' = -k g, Eb <= -k.
-fn rises(rows: &[u8], start: usize, n: usize, m: usize, certificate: &[u8]) -> Fault
+fn rises(rows: &[u8], start: usize, n: usize, m: usize, certificate: &[u8]) -> Result<(), Fault>
     requires { RowsIn rows.now start n m × SettlingIn certificate.now n m }
-    ensures { result ≡ fault_of (weighed_told 61 62 63 n
-        (rising (loop_held rows.now start n m) (settling_held certificate.now n m))) }
+    ensures { result ≡ result_of (weighed_told 61 62 63 n
+        (rising (loop_held rows.now start n m) (settling_held certificate.now n m))) tt }
 {
     let place = 6 + 2 * n + 4;
     let k = endian::u16_at(certificate, place);
     let less = judge_conditions::minus(k as i64);
-    judge_weighed::weighed(
-        rows,
-        start,
-        n,
-        m,
-        certificate,
-        place + 2,
-        6,
-        k as i64,
-        less,
-        less,
-        61,
-    )
+    let held = Held {
+        weights: place + 2,
+        v: 6,
+        now: k as i64,
+        next: less,
+        limit: less,
+    };
+    judge_weighed::weighed(rows, start, n, m, certificate, held, 61)
 }
 
 // Kind 8: the rise, and the ranking over the loop with the added row. The rank is put into the list where all hold.
@@ -46,15 +42,12 @@ pub fn settling(
     m: usize,
     certificate: &[u8],
     rank: &mut [i64],
-) -> Ranked
+) -> Result<Ranked, Fault>
     requires { RowsIn rows.now start n m × SettlingIn certificate.now n m × (n ≤ length rank.old) }
     ensures { SettlingBy result (loop_held rows.now start n m) (settling_held certificate.now n m)
         rank.old rank.new }
 {
-    let risen = rises(rows, start, n, m, certificate);
-    if risen.number != 0 {
-        return judge_ranking::fails(risen.number, risen.place);
-    }
+    rises(rows, start, n, m, certificate)?;
     let place = 6 + 2 * n;
     let t = endian::i32_at(certificate, place);
     let y = place + 6 + 2 * m;
