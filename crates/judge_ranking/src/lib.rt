@@ -15,7 +15,7 @@ ghost use Rattle.judge_ranking.specs.RankingHeld.{ranking_held};
 use refusal::Fault;
 
 // What a ranking shows where its conditions hold: start and fall.
-#[derive(Clone, Copy)]
+#[derive(Clone, Copy, Debug, PartialEq, Eq)]
 pub struct Ranked {
     pub start: i64,
     pub fall: i64,

@@ -21,7 +21,7 @@ fn times_entry(factor: i64, entry: i64) -> i64
 
 // What weighted rows are held to, by places in the certificate: their weights and the entries of v each stand from one on. Over A they are to
 // sum to `now` times v, over A' to `next` times v, and their right sides to no more than the limit.
-#[derive(Clone, Copy)]
+#[derive(Clone, Copy, Debug, PartialEq, Eq)]
 pub struct Held {
     pub weights: usize,
     pub v: usize,
