@@ -13,13 +13,11 @@ pub fn by_short(loopbytes: &[u8], n: usize, m: usize, certificate: &[u8], state:
     requires { LoopSound loopbytes.now n m × (of_short certificate.now ≡ true) }
     ensures { result ≡ bounded_or_short loopbytes.now certificate.now state.now }
 {
-    let fault = record_short_check::check_short(certificate, n, m);
-    if fault.number != 0 {
+    if let Err(fault) = record_short_check::check_short(certificate, n, m) {
         return judge_bound::refused(2, fault.number, fault.place);
     }
-    let unfit = judge_state::state_fault(state, n);
-    if unfit.number != 0 {
-        return judge_bound::refused(0, unfit.number, unfit.place);
+    if let Err(fault) = judge_state::state_fault(state, n) {
+        return judge_bound::refused(0, fault.number, fault.place);
     }
     let mut long = [0u8; 262];
     record_short_write::lengthen_into(certificate, m, &mut long);

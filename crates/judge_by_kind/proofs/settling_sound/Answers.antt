@@ -16,27 +16,27 @@ returns-in-Err c =
     let a = c.args in
     let told =
     at_certificate a.loopbytes.now a.certificate.now a.rank.now c.requires.told _ _
-    (certificate_refused a.loopbytes.now a.certificate.now a.n a.m c.requires c.in-Err.fault (sym c.in-Err.is ∙ c.check_settling.ensures))
+    (certificate_refused a.loopbytes.now a.certificate.now a.n a.m c.requires tt c.in-Err.fault (sym c.in-Err.is ∙ c.check_settling.ensures))
     in
     (c.refused.ensures ∙ told.0, told.1)
 
 pub returns-then-rank-n : goal.returns-then-rank-n
 returns-then-rank-n c =
     let a = c.args in
-    let sound = certificate_sound a.loopbytes.now a.certificate.now a.n a.m c.requires (sym c.in_default.is ∙ c.check_settling.ensures) in
+    let sound = certificate_sound a.loopbytes.now a.certificate.now a.n a.m c.requires tt tt (sym c.in_default.is ∙ c.check_settling.ensures) in
     let told = at_room a.loopbytes.now a.certificate.now a.rank.now a.n a.m c.requires sound c.if-rank-n.true in
     (c.refused-then-rank-n.ensures ∙ told.0, told.1)
 
 pub settling-requires : goal.settling-requires
 settling-requires c =
     let a = c.args in
-    let there = certificate_there a.loopbytes.now a.certificate.now a.n a.m c.requires (sym c.in_default.is ∙ c.check_settling.ensures) in
+    let there = certificate_there a.loopbytes.now a.certificate.now a.n a.m c.requires tt tt (sym c.in_default.is ∙ c.check_settling.ensures) in
     (rows_in _ _ _ c.requires, there, omega arith)
 
 pub returns-in-Ok : goal.returns-in-Ok
 returns-in-Ok c =
     let a = c.args in
-    let sound = certificate_sound a.loopbytes.now a.certificate.now a.n a.m c.requires (sym c.in_default.is ∙ c.check_settling.ensures) in
+    let sound = certificate_sound a.loopbytes.now a.certificate.now a.n a.m c.requires tt tt (sym c.in_default.is ∙ c.check_settling.ensures) in
     let room : a.n ≤ length a.rank.now = omega arith in
     let start : SFits w64 c.in-Ok.field-0.start = search rules in
     let fall : SFits w64 c.in-Ok.field-0.fall = search rules in
@@ -49,7 +49,7 @@ returns-in-Ok c =
 pub returns-in-Err-settling : goal.returns-in-Err-settling
 returns-in-Err-settling c =
     let a = c.args in
-    let sound = certificate_sound a.loopbytes.now a.certificate.now a.n a.m c.requires (sym c.in_default.is ∙ c.check_settling.ensures) in
+    let sound = certificate_sound a.loopbytes.now a.certificate.now a.n a.m c.requires tt tt (sym c.in_default.is ∙ c.check_settling.ensures) in
     let room : a.n ≤ length a.rank.now = omega arith in
     let told =
     one_fails a.loopbytes.now a.certificate.now a.rank.now a.n a.m c.requires sound room
