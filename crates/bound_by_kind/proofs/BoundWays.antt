@@ -1,34 +1,36 @@
 -- The ways through a bound call by the certificate's kind, one for each return: what is told of the records and the state, and what the
 -- definition then answers.
+use Rattle.std.specs.Prelude.{Result, Ok, Err}
 use mathlib.Core.Path.{◌≡◌, refl, sym, ap, ◌∙◌}
 use Prim.Native.Nat.{ℕ, ◌≤◌}
 use mathlib.Core.Bool.{true, false}
 use mathlib.Core.List.{List}
 use native.Mathlib.Omega.{arith}
-use lib.IntN.{ℤ, pos}
-use borrow.Author.Tests.{ne_eqb}
+use lib.IntN.{ℤ}
+use Rattle.refusal.specs.declared.Fault.{Fault}
+use Rattle.refusal.proofs.FaultLaws.{told_done, told_given, told_refused}
 use Rattle.refusal.specs.Tests.{done, refused, first}
-use Rattle.theory.specs.Rankings.{start, fall}
 use Rattle.theory_settling.specs.Settlings.{longer, unsettled, settling_bound}
 use Rattle.verdict.specs.Bounding.{bounded, bounds, bound_of}
-use Rattle.verdict.specs.Stages.{agreed, refusal, said, verdict_of}
+use Rattle.verdict.specs.Stages.{agreed, refusal, said, shows, verdict_of}
+use Rattle.verdict.specs.declared.Bounded.{Bounded}
+use Rattle.verdict.specs.declared.Outcome.TheVariants.{Settling}
 use Rattle.verdict.specs.StateTests.{state_tests}
-use Rattle.verdict.proofs.StageLaws.{by_told, stage_done, stage_refused, agrees_said}
+use Rattle.verdict.proofs.StageLaws.{stage_done, stage_refused, agrees_said}
 use Rattle.verdict.proofs.StatesInRange.{StateIn as StateInRange, state_fits}
 use Rattle.verdict.proofs.SmallSums.{small_state}
 use Rattle.verdict_settling.specs.AnswersByKind.{of_settling, pair_of, bounding_of, bounded_by_kind}
 use Rattle.verdict_settling.specs.SettlingJudging.{SettlingPair, SettlingBounding, variables_of, loop_of, settling_of, loop_told, certificate_told}
 use Rattle.verdict_settling.specs.SettlingJudging.{conditions_told, settling_outcome, settling_bounding, settling_bounds}
 use Rattle.judge_conditions.specs.LoopHeld.{loop_held}
-use Rattle.judge_ranking.specs.RankedBy.{ranked_of, RankedBy}
+use Rattle.judge_ranking.specs.RankedBy.{RankedBy}
 use Rattle.judge_ranking.specs.declared.Ranked.{Ranked}
 use Rattle.judge.specs.SoundPairs.{first_row, LoopSound}
 use Rattle.judge_bound.specs.BoundShown.{no_bound, StateFits}
 use Rattle.judge_settling.specs.SettlingBy.{SettlingBy}
 use Rattle.judge_settling.specs.SettlingHeld.{settling_held}
 use Rattle.judge_settling.proofs.SettlingContentsHeld.{variables_are, settling_held_is, settling_told}
-use Rattle.judge_settling.proofs.SettlingEntered.{never_0}
-use Rattle.bound_by_kind.specs.SettlingBounded.{StateIn, steps_held, settled}
+use Rattle.bound_by_kind.specs.SettlingBounded.{StateIn, steps_held}
 
 -- the bound by places is the settling's
 steps_are : (certificate : List ℕ) (n m : ℕ) (state : List ℤ) → steps_held certificate n state ≡ settling_bound (settling_held certificate n m) state
@@ -72,33 +74,28 @@ module _ (loopbytes certificate : List ℕ) (state : List ℤ) where
     at_state k q h = refused_so 0 k q (stage_done _ _ _ b l.told ∙ stage_done _ _ _ b c ∙ stage_refused _ _ _ b k q (state_told ∙ h))
 
     -- the conditions
-    module _ (fits : StateFits state n) (r : Ranked) (before after : List ℤ)
-        (by : SettlingBy r (loop_held loopbytes first_row n m) (settling_held certificate n m) before after) where
-      by_records : RankedBy r (conditions_told p) (longer (loop_of p) (settling_of p)) (settling_of p).ranking before after
-      by_records = settling_told loopbytes certificate n m l r before after by
+    module _ (fits : StateFits state n) (answer : Result Ranked Fault) (before after : List ℤ)
+        (by : SettlingBy answer (loop_held loopbytes first_row n m) (settling_held certificate n m) before after) where
+      by_records : RankedBy answer (conditions_told p) (longer (loop_of p) (settling_of p)) (settling_of p).ranking before after
+      by_records = settling_told loopbytes certificate n m l answer before after by
 
       steps_so : steps_held certificate n state ≡ settling_bound (settling_of p) state
       steps_so = steps_are certificate n m state ∙ ap (λ c. settling_bound c state) (sym (settling_held_is loopbytes certificate n m l))
 
-      all_hold : conditions_told p ≡ done → settled r (steps_held certificate n state) ≡ settling_bounds b
-      unfolding settled settling_bounding settling_bounds settling_outcome bounded verdict_of ranked_of
-      all_hold e =
+      pub all_hold : (r : Ranked) → Ok r ≡ answer
+          → ◌≡◌ {A = Bounded} (record { verdict = shows (Settling r.start r.fall); bound = steps_held certificate n state }) (settling_bounds b)
+      unfolding settling_bounding settling_bounds settling_outcome bounded verdict_of
+      all_hold r so =
+          let e = told_done (conditions_told p) _ r (so ∙ by_records.shown) in
+          let shown = told_given (conditions_told p) _ r (so ∙ by_records.shown) in
           let all : said settling_bounding b ≡ agreed = agrees_said settling_bounding b (l.told, (c, (state_told ∙ fits, (e, tt)))) in
-          let long = longer (loop_of p) (settling_of p) in
-          let shown : r ≡ record { number = 0; place = 0; start = start long (settling_of p).ranking; fall = fall long (settling_of p).ranking } = rw e at by_records.shown in
           rw (shown, all, steps_so)
 
-      one_fails : (k q : ℕ) → conditions_told p ≡ refused k q → settled r (steps_held certificate n state) ≡ settling_bounds b
-      unfolding settled settling_bounding ranked_of
-      one_fails k q e =
-          let told =
-          refused_so 2 k q (stage_done _ _ _ b l.told ∙ stage_done _ _ _ b c ∙ stage_done _ _ _ b (state_told ∙ fits) ∙ stage_refused _ _ _ b k q e)
-          in
-          let shown : r ≡ record { number = k; place = q; start = pos 0; fall = pos 0 } = rw e at by_records.shown in
-          rw (shown, ne_eqb k 0 (never_0 p k q e)) told
-
-      pub by_conditions : settled r (steps_held certificate n state) ≡ settling_bounds b
-      by_conditions = by_told (conditions_told p) all_hold one_fails
+      pub one_fails : (f : Fault) → Err f ≡ answer → no_bound 2 f.number f.place ≡ settling_bounds b
+      unfolding settling_bounding
+      one_fails f so =
+          let e = told_refused (conditions_told p) _ f (so ∙ by_records.shown) in
+          refused_so 2 f.number f.place (stage_done _ _ _ b l.told ∙ stage_done _ _ _ b c ∙ stage_done _ _ _ b (state_told ∙ fits) ∙ stage_refused _ _ _ b f.number f.place e)
 
   -- ---- by the certificate's kind
 

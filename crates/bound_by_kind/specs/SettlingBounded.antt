@@ -1,15 +1,10 @@
--- What the bound's functions know of a state, and what they answer of a certificate of kind 8.
-use Rattle.std.specs.Prelude.{ℕ, ◌≤◌, ◌≡◌, cond, List, eqb, ℤ, nat_abs, ◌-ℤ◌, length}
+-- What the bound's functions know of a state, and the bound by a certificate of kind 8.
+use Rattle.std.specs.Prelude.{ℕ, ◌≤◌, ◌≡◌, cond, List, ℤ, nat_abs, ◌-ℤ◌, length}
 use Rattle.std.specs.Int.Signed.{lt_z}
 use Rattle.whole.specs.Sums.{dot, Within}
 use Rattle.record_settling.specs.SettlingRecords.{g_place, t_place}
-use Rattle.verdict.specs.Stages.{shows}
-use Rattle.verdict.specs.declared.Bounded.{Bounded}
-use Rattle.verdict.specs.declared.Outcome.TheVariants.{Settling}
 use Rattle.judge_sums.specs.Lists.{entries_from}
 use Rattle.judge_sums.specs.Places.{right_at}
-use Rattle.judge_ranking.specs.declared.Ranked.{Ranked}
-use Rattle.judge_bound.specs.BoundShown.{no_bound}
 
 -- a state of n entries, each small enough for g·x and t - g·x to fit
 pub record StateIn (state : List ℤ) (n : ℕ) : Type 0 where
@@ -22,9 +17,3 @@ unfoldable pub steps_held : List ℕ → ℕ → List ℤ → ℕ
 steps_held certificate n state =
     cond (lt_z (dot (entries_from certificate g_place n) state) (right_at certificate (t_place n)))
     (nat_abs (right_at certificate (t_place n) -ℤ dot (entries_from certificate g_place n) state)) 0
-
--- the answer, from what the conditions tell: the first that fails, or the outcome and the bound
-unfoldable pub settled : Ranked → ℕ → Bounded
-settled r steps =
-    cond (eqb r.number 0) (record { verdict = shows (Settling r.start r.fall); bound = steps })
-    (no_bound 2 r.number r.place)

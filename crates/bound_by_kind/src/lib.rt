@@ -10,7 +10,7 @@ ghost use Rattle.verdict_settling.specs.AnswersByKind.{bounding_of};
 ghost use Rattle.verdict_short.specs.Answers.{bounded_answered};
 ghost use Rattle.verdict_settling.specs.SettlingJudging.{settling_bounds};
 ghost use Rattle.judge.specs.SoundPairs.{LoopSound};
-ghost use Rattle.bound_by_kind.specs.SettlingBounded.{StateIn, steps_held, settled};
+ghost use Rattle.bound_by_kind.specs.SettlingBounded.{StateIn, steps_held};
 
 use judge_ranking::Ranked;
 use verdict::{Bounded, Outcome};
@@ -35,23 +35,6 @@ fn steps_at(certificate: &[u8], n: usize, state: &[i64]) -> usize
     below(reached.sum, endian::i32_at(certificate, 6 + 2 * n))
 }
 
-// The answer of kind 8, from what its conditions tell.
-fn settled_bound(shown: Ranked, certificate: &[u8], n: usize, state: &[i64]) -> Bounded
-    requires { (10 + 2 * n ≤ length certificate.now) × StateIn state.now n }
-    ensures { result ≡ settled shown (steps_held certificate.now n state.now) }
-{
-    if shown.number != 0 {
-        return judge_bound::refused(2, shown.number, shown.place);
-    }
-    Bounded {
-        verdict: judge::accepted(Outcome::Settling {
-            start: shown.start,
-            fall: shown.fall,
-        }),
-        bound: steps_at(certificate, n, state),
-    }
-}
-
 // A certificate of kind 8 and a state, for a loop record that has been checked.
 fn settling_sound(
     loopbytes: &[u8],
@@ -63,24 +46,27 @@ fn settling_sound(
     requires { LoopSound loopbytes.now n m }
     ensures { result ≡ settling_bounds (bounding_of loopbytes.now certificate.now state.now) }
 {
-    let fault = record_settling::check_settling(certificate, n, m);
-    if fault.number != 0 {
+    if let Err(fault) = record_settling::check_settling(certificate, n, m) {
         return judge_bound::refused(2, fault.number, fault.place);
     }
-    let unfit = judge_state::state_fault(state, n);
-    if unfit.number != 0 {
-        return judge_bound::refused(0, unfit.number, unfit.place);
+    if let Err(fault) = judge_state::state_fault(state, n) {
+        return judge_bound::refused(0, fault.number, fault.place);
     }
     let mut entries = [0i64; 16];
-    let shown = judge_settling::settling(
+    match judge_settling::settling(
         loopbytes,
         judge::FIRST_ROW,
         n,
         m,
         certificate,
         &mut entries,
-    );
-    settled_bound(shown, certificate, n, state)
+    ) {
+        Ok(Ranked { start, fall }) => Bounded {
+            verdict: judge::accepted(Outcome::Settling { start, fall }),
+            bound: steps_at(certificate, n, state),
+        },
+        Err(fault) => judge_bound::refused(2, fault.number, fault.place),
+    }
 }
 
 // A certificate and a state for a loop record that has been checked: the frame is the same for every kind, and the kind decides the rest.
@@ -94,9 +80,8 @@ fn bound_certificate(
     requires { LoopSound loopbytes.now n m }
     ensures { result ≡ bounded_answered loopbytes.now certificate.now state.now }
 {
-    let head = record_check::frame(certificate);
-    if head.number != 0 {
-        return judge_bound::refused(2, head.number, head.place);
+    if let Err(fault) = record_check::frame(certificate) {
+        return judge_bound::refused(2, fault.number, fault.place);
     }
     match endian::u16_at(certificate, 4) {
         2 => judge_bound::by_ranking(loopbytes, n, m, certificate, state),
@@ -112,20 +97,18 @@ fn bound_rows(loopbytes: &[u8], certificate: &[u8], state: &[i64]) -> Bounded
     requires { Framed loopbytes.now × (little_at 2 loopbytes.now 4 ≡ 1) }
     ensures { result ≡ bounded_answered loopbytes.now certificate.now state.now }
 {
-    let said = record_check::loop_record(loopbytes);
-    if said.number != 0 {
-        return judge_bound::refused(1, said.number, said.place);
+    match record_check::loop_record(loopbytes) {
+        Ok(checked) => bound_certificate(loopbytes, checked.n, checked.m, certificate, state),
+        Err(fault) => judge_bound::refused(1, fault.number, fault.place),
     }
-    bound_certificate(loopbytes, said.n, said.m, certificate, state)
 }
 
 // The bound on steps from a state, by a certificate's bytes for a loop's bytes.
 pub fn bound(loopbytes: &[u8], certificate: &[u8], state: &[i64]) -> Bounded
     ensures { result ≡ bounded_answered loopbytes.now certificate.now state.now }
 {
-    let head = record_check::frame(loopbytes);
-    if head.number != 0 {
-        return judge_bound::refused(1, head.number, head.place);
+    if let Err(fault) = record_check::frame(loopbytes) {
+        return judge_bound::refused(1, fault.number, fault.place);
     }
     match endian::u16_at(loopbytes, 4) {
         1 => bound_rows(loopbytes, certificate, state),

@@ -1,6 +1,7 @@
 -- The ways through the judge, one for each return: what the checks and the conditions tell of a loop of several paths, and which judge answers by the records'
 -- kinds, records that are too short for a kind included.
 use mathlib.Core.Path.{◌≡◌, refl, sym, ◌∙◌}
+use Prim.Native.Nat.{ℕ}
 use mathlib.Core.List.{List}
 use Rattle.refusal.specs.Faults.{result_of}
 use Rattle.refusal.specs.Tests.{Told, done, first}

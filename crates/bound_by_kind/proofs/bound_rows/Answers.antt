@@ -1,0 +1,14 @@
+-- `bound_by_kind::bound_rows` meets its contract: the loop's body is checked, then the rest.
+use Rattle.std.proofs.Common.{◌∙◌, sym}
+use Rattle.judge.proofs.Entered as Entered
+use Rattle.bound_by_kind.proofs.AnswerWays.{loop_refused}
+use Rattle.bound_by_kind.proofs.bound_rows.Goals as goal
+
+pub bound_certificate-requires : goal.bound_certificate-requires
+bound_certificate-requires c = Entered.loop_sound c.args.loopbytes.now c.in-Ok.checked (sym c.in-Ok.is ∙ c.loop_record.ensures)
+
+pub returns-in-Err : goal.returns-in-Err
+returns-in-Err c =
+    let a = c.args in
+    c.refused.ensures
+    ∙ loop_refused a.loopbytes.now a.certificate.now a.state.now _ _ (Entered.loop_refused a.loopbytes.now c.in-Err.fault (sym c.in-Err.is ∙ c.loop_record.ensures))
