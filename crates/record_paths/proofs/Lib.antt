@@ -4,6 +4,8 @@ pub mod PathSums
 pub mod RunFields
 -- what a sound record of kind 5 or 6 says
 pub mod PathsSound
+-- the bytes and the range of δ
+pub mod FallBounds
 -- the bytes that components take
 pub mod PathWidths
 -- a loop of two paths with its argument, on file

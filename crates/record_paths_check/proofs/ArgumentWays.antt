@@ -17,19 +17,16 @@ use Rattle.record.specs.Fields.{width, widths}
 use Rattle.record.specs.Layouts.{multiplier}
 use Rattle.record.specs.Ranges.{within}
 use Rattle.record.specs.Readers.{stated_length, kind_number}
-use Rattle.record.proofs.FieldLaws.{widths_append}
-use Rattle.record.proofs.Lengths.{widths_replicate}
-use Rattle.record_fields.specs.Runs.{fault}
+use Rattle.record_fields.specs.Runs.{fault, run_told}
 use Rattle.record_fields.proofs.FirstFaults.{one_fits, one_out, all_fit, not_all_fit}
-use Rattle.record_check.specs.Checks.{Framed, ended}
+use Rattle.record_check.specs.Checks.{Framed}
 use Rattle.record_paths.specs.PathCertificates.{Counted, components_in, component_in, before_missing, multipliers_before}
 use Rattle.record_paths.specs.PathCertificates.{all_multipliers, components_fields, certificate_fields, certificate_length, sound_lexicographic}
 use Rattle.record_paths.specs.PathFields.{component_counts, component_count, bytes_alone, is_kind, holds_counts, is_long, fields_fit}
-use Rattle.record_paths.proofs.PathWidths.{widths_components}
 use Rattle.record_paths.proofs.RunFields.{within_both}
 use Rattle.record_paths_check.specs.PathChecks.{told_along, walked, component_there, ComponentsCounted}
 use Rattle.record_paths_check.proofs.FieldFaults.{count_fits}
-use Rattle.record_paths_check.proofs.OrderWays.{past_frame, ends_so}
+use Rattle.record_paths_check.proofs.OrderWays.{past_frame, fields_told}
 use Rattle.record_paths_check.proofs.PathWalks.{given, along_refused, all_pass, whole_sum, whole_small}
 
 -- the multipliers of path j
@@ -152,18 +149,11 @@ module _ (c : Counted) (bytes : List ℕ) (components : ℕ) (d : ComponentsCoun
           unfolding certificate_fields
           same_fields = rw (d.read, n_read, summed)
 
-          wide : widths (certificate_fields c bytes) ≡ components * (4 * n + 8) + 2 * sum
-          unfolding width multiplier
-          wide = rw (same_fields, widths_append, widths_components, widths_replicate) (omega arith)
-
-          pub values_told : length bytes ≡ 8 + 2 * paths + components * (4 * n + 8) + 2 * sum → (at : ℕ)
-              → at ≡ fault (components_fields n components ++ replicate sum multiplier) bytes (8 + 2 * paths)
-              → first (sound_lexicographic c) (bytes_alone bytes) ≡ ended at (length bytes)
+          pub values_told : length bytes ≡ 8 + 2 * paths + components * (4 * n + 8) + 2 * sum
+              → first (sound_lexicographic c) (bytes_alone bytes) ≡ run_told (components_fields n components ++ replicate sum multiplier) bytes (8 + 2 * paths)
           unfolding sound_lexicographic is_long stated_length bytes_alone
-          values_told long at told =
+          values_told long =
               let same : little_at 4 bytes 0 ≡ certificate_length c bytes = omega (arith, d.frame.whole, formula) in
-              ends_so bytes (λ r. 8 + 2 * c.paths) (λ r. certificate_fields c r.bytes)
-              (past_numbers ∙ passed _ _ _ _ (bytes_alone bytes) (eq-eqb _ _ same))
-              (omega (arith, wide)) at
-              (told ∙ ap (λ k. fault (components_fields n components ++ replicate sum multiplier) bytes (8 + 2 * k)) read
-              ∙ ap (λ fs. fault fs bytes (8 + 2 * c.paths)) (sym same_fields))
+              past_numbers ∙ passed _ _ _ _ (bytes_alone bytes) (eq-eqb _ _ same)
+              ∙ fields_told bytes (λ r. 8 + 2 * c.paths) (λ r. certificate_fields c r.bytes)
+              ∙ rw (same_fields, ← read)

@@ -1,21 +1,20 @@
--- The parts that the orders of kinds 5 to 8 share: L against the bytes, and what a test of fields says by where they have their fault.
+-- The parts that the orders of kinds 5 to 8 share: L against the bytes, and a last test of fields, which says what they tell.
 use mathlib.Core.Path.{◌≡◌, refl, ◌∙◌}
 use Prim.Native.Nat.{ℕ, ◌+◌, ◌≤◌}
 use mathlib.Core.List.{List, [], ◌∷◌, ◌++◌}
-use native.Mathlib.Decide.{dec_lt}
 use native.Mathlib.Omega.{arith}
 use lib.ListN.{length}
-use borrow.Author.Tests.{le-leb, lt-ltb, le-ltb}
+use borrow.Author.Tests.{le-leb}
 use Rattle.refusal.specs.declared.Fault.{Fault}
 use Rattle.refusal.specs.Faults.{result_of}
-use Rattle.refusal.specs.Tests.{Told, Test, first}
+use Rattle.refusal.specs.Tests.{Test, first}
 use Rattle.refusal.proofs.FaultLaws.{told_refused, refuses}
-use Rattle.refusal.proofs.TestLaws.{passed, failed, passes_done, first_then, first_told}
-use Rattle.record.specs.Fields.{Field, widths}
+use Rattle.refusal.proofs.TestLaws.{first_then, first_told}
+use Rattle.record.specs.Fields.{Field}
 use Rattle.record.specs.Readers.{Reader, framing, stated_length, loop_reader}
-use Rattle.record_fields.specs.Runs.{fault}
-use Rattle.record_fields.proofs.FirstFaults.{all_fit, not_all_fit, fault_within}
-use Rattle.record_check.specs.Checks.{Framed, ended}
+use Rattle.record_fields.specs.Runs.{fault, run_told}
+use Rattle.record_fields.proofs.ToldFaults.{run_told-test}
+use Rattle.record_check.specs.Checks.{Framed}
 use Rattle.record_check.proofs.FrameWays.{stopped, right, frame_passes}
 use Rattle.record_paths.specs.PathFields.{bytes_alone, fields_fit}
 
@@ -47,21 +46,9 @@ past_frame rest bytes f =
     let four : 4 ≤ length r.bytes = omega (arith, f.head) in
     first_then framing rest r (le-leb _ _ four, (le-leb _ _ small, (le-leb _ _ few, (le-leb _ _ many, tt))))
 
--- ---- the last test: values that end where the record ends
+-- ---- the last test: what the values tell
 
 module _ (bytes : List ℕ) (start : Reader → ℕ) (fields : Reader → List Field) where
-  pub ends_so : {t : Told} → t ≡ first (fields_fit 6 start fields ∷ []) (bytes_alone bytes)
-      → start (bytes_alone bytes) + widths (fields (bytes_alone bytes)) ≡ length bytes
-      → (at : ℕ) → at ≡ fault (fields (bytes_alone bytes)) bytes (start (bytes_alone bytes)) → t ≡ ended at (length bytes)
-  unfolding ended fields_fit bytes_alone fault
-  ends_so is whole at told =
-      let r = bytes_alone bytes in
-      elim (dec_lt at (length bytes)) [
-        | yes early ↦
-            let out = not_all_fit bytes (fields r) (start r) (omega (arith, whole)) in
-            rw (lt-ltb at (length bytes) early, told) (is ∙ failed _ _ _ _ r out)
-        | no late ↦
-            let all = all_fit bytes (fields r) (start r) (omega (arith, whole, fault_within bytes (fields r) (start r))) in
-            let l : length bytes ≤ at = omega arith in
-            rw (le-ltb at (length bytes) l) (is ∙ passed _ _ _ _ r all ∙ passes_done [] r tt)
-      ]
+  pub fields_told : first (fields_fit 6 start fields ∷ []) (bytes_alone bytes) ≡ run_told (fields (bytes_alone bytes)) bytes (start (bytes_alone bytes))
+  unfolding fields_fit bytes_alone fault
+  fields_told = let r = bytes_alone bytes in run_told-test bytes (fields r) (start r) _ _ r refl refl

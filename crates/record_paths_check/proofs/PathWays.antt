@@ -18,16 +18,16 @@ use Rattle.record.specs.Layouts.{variable_count, row_count, rows_of}
 use Rattle.record.specs.Ranges.{variables, within}
 use Rattle.record.specs.Readers.{stated_length, kind_number}
 use Rattle.record.proofs.CountLimits.{variables_most, rows_most}
-use Rattle.record.proofs.Lengths.{widths_replicate, widths_rows}
-use Rattle.record_fields.specs.Runs.{fault}
+use Rattle.record.proofs.Lengths.{widths_replicate}
+use Rattle.record_fields.specs.Runs.{fault, run_told}
 use Rattle.record_fields.proofs.FirstFaults.{fault_none, fault_next, fault_here, all_fit, not_all_fit}
-use Rattle.record_check.specs.Checks.{Framed, ended}
+use Rattle.record_check.specs.Checks.{Framed}
 use Rattle.record_paths.specs.PathFields.{path_counts, path_count, bytes_alone, is_kind, holds_counts, is_long, fields_fit}
 use Rattle.record_paths.specs.PathLoops.{variables_in, paths_in, rows_in, all_rows, rows_before, paths_length, sound_paths}
 use Rattle.record_paths.proofs.RunFields.{within_both}
 use Rattle.record_paths_check.specs.PathChecks.{told_along, walked, m_fits, PathsCounted}
 use Rattle.record_paths_check.proofs.FieldFaults.{count_fits, run_fault}
-use Rattle.record_paths_check.proofs.OrderWays.{past_frame, ends_so}
+use Rattle.record_paths_check.proofs.OrderWays.{past_frame, fields_told}
 use Rattle.record_paths_check.proofs.PathWalks.{given, along_refused, all_pass, whole_sum, whole_small}
 
 module _ (bytes : List ℕ) where
@@ -148,15 +148,14 @@ module _ (bytes : List ℕ) (n paths : ℕ) (c : PathsCounted bytes n paths) whe
       wrong_length h =
           past_ms ∙ failed _ _ _ _ (bytes_alone bytes) (ne_eqb _ _ (λ e. h (c.frame.whole ∙ ap (λ k. 4 + k) e ∙ formula)))
 
-      values_so : length bytes ≡ 10 + 2 * paths + all_rows bytes * (4 * n + 4) → (at : ℕ)
-          → at ≡ fault (rows_of n (all_rows bytes)) bytes (10 + 2 * paths) → first sound_paths (bytes_alone bytes) ≡ ended at (length bytes)
-      unfolding sound_paths is_long stated_length bytes_alone fields_fit
-      values_so long at told =
+      values_so : length bytes ≡ 10 + 2 * paths + all_rows bytes * (4 * n + 4)
+          → first sound_paths (bytes_alone bytes) ≡ run_told (rows_of n (all_rows bytes)) bytes (10 + 2 * paths)
+      unfolding sound_paths is_long stated_length bytes_alone
+      values_so long =
           let same : little_at 4 bytes 0 ≡ paths_length bytes = omega (arith, c.frame.whole, formula) in
-          ends_so bytes (λ r. 10 + 2 * paths_in r.bytes) (λ r. rows_of (variables_in r.bytes) (all_rows r.bytes))
-          (past_ms ∙ passed _ _ _ _ (bytes_alone bytes) (eq-eqb _ _ same))
-          (rw (← c.n_read, ← c.paths_read, widths_rows) (sym long))
-          at (rw (← c.n_read, ← c.paths_read) told)
+          past_ms ∙ passed _ _ _ _ (bytes_alone bytes) (eq-eqb _ _ same)
+          ∙ fields_told bytes (λ r. 10 + 2 * paths_in r.bytes) (λ r. rows_of (variables_in r.bytes) (all_rows r.bytes))
+          ∙ rw (← c.n_read, ← c.paths_read)
 
   -- a walk along the m's that came to the end
   module _ (sum : ℕ) (is : given (Ok sum) ≡ walked 5 10 paths (m_fits bytes) (rows_in bytes)) where
@@ -179,8 +178,6 @@ module _ (bytes : List ℕ) (n paths : ℕ) (c : PathsCounted bytes n paths) whe
       pub bad_length : (length bytes ≡ 10 + 2 * paths + sum * (4 * n + 4) → ⊥) → Tells bytes 3 0
       bad_length h = wrong_length there all_in_range (λ e. h (e ∙ ap (λ k. 10 + 2 * paths + k * (4 * n + 4)) (sym summed)))
 
-      pub values_told : length bytes ≡ 10 + 2 * paths + sum * (4 * n + 4) → (at : ℕ) → at ≡ fault (rows_of n sum) bytes (10 + 2 * paths)
-          → first sound_paths (bytes_alone bytes) ≡ ended at (length bytes)
-      values_told long at told =
-          values_so there all_in_range (long ∙ ap (λ k. 10 + 2 * paths + k * (4 * n + 4)) summed) at
-          (told ∙ ap (λ k. fault (rows_of n k) bytes (10 + 2 * paths)) summed)
+      pub values_told : length bytes ≡ 10 + 2 * paths + sum * (4 * n + 4) → first sound_paths (bytes_alone bytes) ≡ run_told (rows_of n sum) bytes (10 + 2 * paths)
+      values_told long =
+          values_so there all_in_range (long ∙ ap (λ k. 10 + 2 * paths + k * (4 * n + 4)) summed) ∙ ap (λ k. run_told (rows_of n k) bytes (10 + 2 * paths)) (sym summed)

@@ -2,17 +2,19 @@
 // tests of "Order for a record". A record is visited once and never copied.
 #![tactic(auto)]
 
-ghost use Rattle.std.specs.Prelude.{◌+◌, ◌*◌, ◌≤◌, ◌≡◌, ◌++◌, length, replicate};
+ghost use Rattle.std.specs.Prelude.{◌+◌, ◌*◌, ◌≤◌, ◌≡◌, ◌++◌, pos, length, replicate};
 ghost use Rattle.refusal.specs.Faults.{result_of};
 ghost use Rattle.refusal.specs.Tests.{done, first};
 ghost use Rattle.record.specs.Layouts.{multiplier};
-ghost use Rattle.record_fields.specs.Runs.{fits, fault};
+ghost use Rattle.record_fields.specs.Runs.{fits, run_told};
 ghost use Rattle.record_paths.specs.PathCertificates.{counted, component_fields, components_fields, sound_lexicographic};
 ghost use Rattle.record_paths.specs.PathFields.{fall, bytes_alone};
 ghost use Rattle.record_paths.specs.PathLoops.{rows_in, sound_paths};
+ghost use Rattle.record_paths.proofs.FallBounds.{fall_wide, fall_range};
 ghost use Rattle.record_paths_check.specs.PathChecks.{walked, m_fits, component_there, multipliers_of};
 ghost use Rattle.record_paths_check.specs.PathChecks.{PathsCounted, ComponentsCounted, Numbered};
 
+use record_faults::{BodyField, Direction, RightSide};
 use refusal::{Fault, refused};
 
 // ---- walks along the paths: each is tested and counted at once
@@ -61,64 +63,67 @@ fn lists_walked(
 
 // ---- the values of kind 6
 
-fn fall_fits(bytes: &[u8], place: usize) -> bool
-    requires { place + 4 ≤ length bytes.now }
-    ensures { result ≡ fits fall bytes.now place }
-{
-    record_faults::between(endian::u32_at(bytes, place), 1, 1000000)
+// δ
+struct Fall;
+
+impl BodyField for Fall {
+    const WIDE: usize = 4;
+
+    const LEAST: i64 = 1;
+
+    const MOST: i64 = 1000000;
+
+    ghost WIDE = { 4 };
+
+    ghost LEAST = { pos 1 };
+
+    ghost MOST = { pos 1000000 };
+
+    ghost field = { fall };
+
+    ghost wide = { fall_wide };
+
+    ghost range = { fall_range };
+
+    fn fits(bytes: &[u8], place: usize) -> bool {
+        record_faults::between(endian::u32_at(bytes, place), 1, 1000000)
+    }
 }
 
 // r, δ0 and δ of one component.
-fn component_fault(bytes: &[u8], place: usize, n: usize) -> usize
+fn component_fault(bytes: &[u8], place: usize, n: usize) -> Result<(), Fault>
     requires { place + (4 * n + 8) ≤ length bytes.now }
-    ensures { result ≡ fault (component_fields n) bytes.now place }
+    ensures { result ≡ result_of (run_told (component_fields n) bytes.now place) tt }
 {
     let right = place + 4 * n;
-    let at = record_faults::directions_fault(bytes, place, n);
-    if at < right {
-        return at;
-    }
-    let last = right + 4;
-    let at = record_faults::right_side_fault(bytes, right);
-    if at < last {
-        return at;
-    }
-    if fall_fits(bytes, last) {
-        last + 4
-    } else {
-        last
-    }
+    record_faults::run_fault::<Direction>(bytes, place, n)?;
+    record_faults::field_fault::<RightSide>(bytes, right)?;
+    record_faults::field_fault::<Fall>(bytes, right + 4)
 }
 
-fn components_fault(bytes: &[u8], place: usize, n: usize, count: usize) -> usize
+fn components_fault(bytes: &[u8], place: usize, n: usize, count: usize) -> Result<(), Fault>
     requires { place + count * (4 * n + 8) ≤ length bytes.now }
-    ensures { result ≡ fault (components_fields n count) bytes.now place }
+    ensures { result ≡ result_of (run_told (components_fields n count) bytes.now place) tt }
 {
-    let mut at = place;
-    let mut left = count;
-    while 0 < left {
-        let here = component_fault(bytes, at, n);
-        let next = at + (4 * n + 8);
-        if here < next {
-            return here;
-        }
-        at = next;
-        left -= 1;
+    for i in 0..count {
+        component_fault(bytes, place + (4 * n + 8) * i, n)?;
     }
-    at
+    Ok(())
 }
 
 // The components, and the multipliers of all paths as one run.
-fn argument_fault(bytes: &[u8], place: usize, n: usize, components: usize, count: usize) -> usize
+fn argument_fault(
+    bytes: &[u8],
+    place: usize,
+    n: usize,
+    components: usize,
+    count: usize,
+) -> Result<(), Fault>
     requires { (n ≤ 16) × (place + components * (4 * n + 8) + count * 2 ≤ length bytes.now) }
-    ensures { result ≡ fault (components_fields n components ++ replicate count multiplier) bytes.now place }
+    ensures { result ≡ result_of (run_told (components_fields n components ++ replicate count multiplier) bytes.now place) tt }
 {
-    let lists = place + components * (4 * n + 8);
-    let at = components_fault(bytes, place, n, components);
-    if at < lists {
-        return at;
-    }
-    record_faults::multipliers_fault(bytes, lists, count)
+    components_fault(bytes, place, n, components)?;
+    record_faults::multipliers_fault(bytes, place + components * (4 * n + 8), count)
 }
 
 // ---- kind 5
@@ -137,7 +142,7 @@ fn rows_told(bytes: &[u8], n: usize, paths: usize) -> Result<(), Fault>
     if end != start + rows * (4 * n + 4) {
         return refused(3, 0);
     }
-    record_check::ends(record_faults::rows_fault(bytes, start, n, rows), end)
+    record_faults::rows_fault(bytes, start, n, rows)
 }
 
 // Whether bytes are a sound record of kind 5.
@@ -181,10 +186,7 @@ fn lists_told(loopbytes: &[u8], bytes: &[u8], components: usize) -> Result<(), F
     if end != start + components * (4 * n + 8) + 2 * multipliers {
         return refused(3, 0);
     }
-    record_check::ends(
-        argument_fault(bytes, start, n, components, multipliers),
-        end,
-    )
+    argument_fault(bytes, start, n, components, multipliers)
 }
 
 // Whether bytes are a sound record of kind 6 for a sound loop of kind 5.

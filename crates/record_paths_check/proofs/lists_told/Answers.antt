@@ -103,9 +103,8 @@ pub returns : goal.returns
 unfolding counted variables_in paths_in
 returns c =
     let a = c.args in
-    c.ends.ensures
+    c.argument_fault.ensures
     ∙ ap (λ t. result_of t tt)
     (sym
     (values_told (counted a.loopbytes.now) a.bytes.now a.components c.requires.components_counted c.u16_at-paths.result c.u16_at-paths.ensures.0 c.if-end-start.false
-    c.in_ok-multipliers.multipliers (sym c.in_ok-multipliers.was ∙ c.lists_walked.ensures) c.u16_at-n.result c.u16_at-n.ensures.0 c.if-end-start-2.false
-    c.argument_fault.result c.argument_fault.ensures))
+    c.in_ok-multipliers.multipliers (sym c.in_ok-multipliers.was ∙ c.lists_walked.ensures) c.u16_at-n.result c.u16_at-n.ensures.0 c.if-end-start-2.false))

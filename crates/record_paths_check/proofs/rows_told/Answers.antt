@@ -53,8 +53,7 @@ returns-then-end-start-2 c =
 pub returns : goal.returns
 returns c =
     let a = c.args in
-    c.ends.ensures
+    c.rows_fault.ensures
     ∙ ap (λ t. result_of t tt)
     (sym
-    (values_told a.bytes.now a.n a.paths c.requires c.in_ok-rows.rows (sym c.in_ok-rows.was ∙ c.rows_walked.ensures) c.if-end-start.false c.if-end-start-2.false
-    c.rows_fault.result c.rows_fault.ensures))
+    (values_told a.bytes.now a.n a.paths c.requires c.in_ok-rows.rows (sym c.in_ok-rows.was ∙ c.rows_walked.ensures) c.if-end-start.false c.if-end-start-2.false))
