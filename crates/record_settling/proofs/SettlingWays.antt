@@ -9,12 +9,11 @@ use Rattle.endian.specs.Numbers.{little_at}
 use Rattle.refusal.specs.Tests.{refused, first}
 use Rattle.refusal.proofs.TestLaws.{passed, failed}
 use Rattle.record.specs.Readers.{stated_length, kind_number}
-use Rattle.record_fields.specs.Runs.{fault}
-use Rattle.record_check.specs.Checks.{Framed, ended}
-use Rattle.record_paths.specs.PathFields.{bytes_alone, is_kind, is_long, fields_fit}
-use Rattle.record_paths_check.proofs.OrderWays.{past_frame, ends_so}
+use Rattle.record_fields.specs.Runs.{run_told}
+use Rattle.record_check.specs.Checks.{Framed}
+use Rattle.record_paths.specs.PathFields.{bytes_alone, is_kind, is_long}
+use Rattle.record_paths_check.proofs.OrderWays.{past_frame, fields_told}
 use Rattle.record_settling.specs.SettlingRecords.{settling_fields, settling_length, sound_settling}
-use Rattle.record_settling.proofs.SettlingValues.{widths_settling}
 
 module _ (bytes : List ℕ) (n m : ℕ) (f : Framed bytes) where
   -- what is told of the record
@@ -40,10 +39,8 @@ module _ (bytes : List ℕ) (n m : ℕ) (f : Framed bytes) where
         let other : little_at 4 bytes 0 ≡ 12 + 2 * n + 6 * m → ⊥ = λ e. h (omega (arith, e, f.whole)) in
         of_kind ∙ failed _ _ _ _ (bytes_alone bytes) (ne_eqb _ _ other)
 
-    pub values_told : length bytes ≡ 16 + 2 * n + 6 * m → (at : ℕ) → at ≡ fault (settling_fields n m) bytes 6
-        → first (sound_settling n m) (bytes_alone bytes) ≡ ended at (length bytes)
-    unfolding sound_settling is_long stated_length bytes_alone fields_fit settling_length
-    values_told long at told =
+    pub values_told : length bytes ≡ 16 + 2 * n + 6 * m → first (sound_settling n m) (bytes_alone bytes) ≡ run_told (settling_fields n m) bytes 6
+    unfolding sound_settling is_long stated_length bytes_alone settling_length
+    values_told long =
         let same : little_at 4 bytes 0 ≡ 12 + 2 * n + 6 * m = omega (arith, f.whole, long) in
-        ends_so bytes (λ r. 6) (λ r. settling_fields n m) (of_kind ∙ passed _ _ _ _ (bytes_alone bytes) (eq-eqb _ _ same))
-        (rw (widths_settling n m) (omega (arith, long))) at told
+        of_kind ∙ passed _ _ _ _ (bytes_alone bytes) (eq-eqb _ _ same) ∙ fields_told bytes (λ r. 6) (λ r. settling_fields n m)

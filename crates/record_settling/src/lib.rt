@@ -5,23 +5,19 @@
 ghost use Rattle.std.specs.Prelude.{◌+◌, ◌*◌, ◌≤◌, ◌≡◌, length};
 ghost use Rattle.refusal.specs.Faults.{result_of};
 ghost use Rattle.refusal.specs.Tests.{first};
-ghost use Rattle.record_fields.specs.Runs.{fault};
+ghost use Rattle.record_fields.specs.Runs.{run_told};
 ghost use Rattle.record_paths.specs.PathFields.{bytes_alone};
 ghost use Rattle.record_settling.specs.SettlingRecords.{settling_fields, sound_settling};
 
 use refusal::{Fault, refused};
 
-// Where the values have their first number out of range: g and t are a linear part, k and all multipliers one of weights.
-fn settling_fault(bytes: &[u8], n: usize, m: usize) -> usize
+// What the values tell: g and t are a linear part, k and all multipliers one of weights.
+fn settling_fault(bytes: &[u8], n: usize, m: usize) -> Result<(), Fault>
     requires { 16 + 2 * n + 6 * m ≤ length bytes.now }
-    ensures { result ≡ fault (settling_fields n m) bytes.now 6 }
+    ensures { result ≡ result_of (run_told (settling_fields n m) bytes.now 6) tt }
 {
-    let scale = 10 + 2 * n;
-    let at = record_faults::linear_fault(bytes, 6, n);
-    if at < scale {
-        return at;
-    }
-    record_faults::weights_fault(bytes, scale, 3 * m + 2)
+    record_faults::linear_fault(bytes, 6, n)?;
+    record_faults::weights_fault(bytes, 10 + 2 * n, 3 * m + 2)
 }
 
 // Whether bytes are a sound record of kind 8.
@@ -33,9 +29,8 @@ pub fn check_settling(bytes: &[u8], n: usize, m: usize) -> Result<(), Fault>
     if endian::u16_at(bytes, 4) != 8 {
         return refused(4, 4);
     }
-    let end = bytes.len();
-    if end != 16 + 2 * n + 6 * m {
+    if bytes.len() != 16 + 2 * n + 6 * m {
         return refused(3, 0);
     }
-    record_check::ends(settling_fault(bytes, n, m), end)
+    settling_fault(bytes, n, m)
 }

@@ -28,15 +28,15 @@ returns-then-u16_at-ne8 c =
     let right = right_frame a.bytes.now (sym c.in_ok-frame.was ∙ c.frame.ensures) in
     c.refused.ensures ∙ refuses tt (other_kind a.bytes.now a.n a.m right (λ e. c.if-u16_at-ne8.true (c.u16_at.ensures.0 ∙ e)))
 
-pub returns-then-end-n : goal.returns-then-end-n
-returns-then-end-n c =
+pub returns-then-bytes-n : goal.returns-then-bytes-n
+returns-then-bytes-n c =
     let a = c.args in
     let right = right_frame a.bytes.now (sym c.in_ok-frame.was ∙ c.frame.ensures) in
-    c.refused-then-end-n.ensures ∙ refuses tt (bad_length a.bytes.now a.n a.m right (sym c.u16_at.ensures.0 ∙ c.if-u16_at-ne8.false) c.if-end-n.true)
+    c.refused-then-bytes-n.ensures ∙ refuses tt (bad_length a.bytes.now a.n a.m right (sym c.u16_at.ensures.0 ∙ c.if-u16_at-ne8.false) c.if-bytes-n.true)
 
 pub returns : goal.returns
 returns c =
     let a = c.args in
     let right = right_frame a.bytes.now (sym c.in_ok-frame.was ∙ c.frame.ensures) in
-    let told = values_told a.bytes.now a.n a.m right (sym c.u16_at.ensures.0 ∙ c.if-u16_at-ne8.false) c.if-end-n.false c.settling_fault.result c.settling_fault.ensures in
-    c.ends.ensures ∙ ap (λ t. result_of t tt) (sym told)
+    let told = values_told a.bytes.now a.n a.m right (sym c.u16_at.ensures.0 ∙ c.if-u16_at-ne8.false) c.if-bytes-n.false in
+    c.settling_fault.ensures ∙ ap (λ t. result_of t tt) (sym told)
