@@ -20,10 +20,9 @@ use Rattle.record_fields.proofs.FirstFaults.{one_fits, one_out, all_fit, not_all
 use Rattle.record_check.specs.Checks.{Framed}
 use Rattle.record_paths.specs.PathFields.{bytes_alone, is_kind, holds_counts, is_long, fields_fit}
 use Rattle.record_paths_check.proofs.FieldFaults.{count_fits}
-use Rattle.record_paths_check.proofs.OrderWays.{past_frame, ends_so}
+use Rattle.record_paths_check.proofs.OrderWays.{past_frame, fields_told}
 use Rattle.record_short.specs.ShortRecords.{triples_in, row_rises, has_weight, before_bad, triple_count, triples_fields, short_length, sound_short}
 use Rattle.record_short_check.specs.ShortChecks.{passes, triple_told, values_told, triples_told}
-use Rattle.record_short_check.proofs.TripleWalks.{widths_triples}
 
 module _ (n m : ℕ) (bytes : List ℕ) where
   -- what is told of the record, and what the tests from one on tell
@@ -114,10 +113,8 @@ module _ (n m : ℕ) (bytes : List ℕ) where
               unfolding sound_short bytes_alone values_told
               all_pass all past =
                   let whole : eqb (before_bad m bytes) (triples_in bytes) ≡ true = eq-eqb _ _ all in
-                  rw (← long)
-                  (ends_so bytes (λ r. 8) (λ r. triples_fields (triples_in r.bytes))
-                  (past ∙ passed _ _ _ _ (bytes_alone bytes) (rw whole) ∙ passed _ _ _ _ (bytes_alone bytes) whole)
-                  (rw widths_triples (sym long)) (fault (triples_fields (triples_in bytes)) bytes 8) refl)
+                  past ∙ passed _ _ _ _ (bytes_alone bytes) (rw whole) ∙ passed _ _ _ _ (bytes_alone bytes) whole
+                  ∙ fields_told bytes (λ r. 8) (λ r. triples_fields (triples_in r.bytes))
 
               pub triples_so : first (sound_short n m) (bytes_alone bytes) ≡ triples_told m bytes (triples_in bytes)
               unfolding triples_told before_bad

@@ -9,7 +9,7 @@ use native.Mathlib.Decide.{dec_lt}
 use native.Mathlib.Numerals.{add-one}
 use native.Mathlib.Omega.{arith}
 use lib.ListN.{replicate}
-use borrow.Author.Tests.{lt-ltb, le-ltb, eq-eqb, ne_eqb}
+use borrow.Author.Tests.{eq-eqb, ne_eqb}
 use Rattle.endian.specs.Numbers.{little_at}
 use Rattle.refusal.specs.declared.Fault.{Fault}
 use Rattle.refusal.specs.Faults.{result_of}
@@ -20,9 +20,8 @@ use Rattle.refusal.proofs.PlaceLaws.{before_all, before_first}
 use Rattle.refusal.proofs.TestLaws.{never, either, true_both, both_true, done_passes, passes_done}
 use Rattle.record.specs.Fields.{width, number, Field, widths}
 use Rattle.record.specs.Layouts.{multiplier}
-use Rattle.record_check.specs.Checks.{ended}
-use Rattle.record_fields.specs.Runs.{field_number_at, fits, fault}
-use Rattle.record_fields.proofs.FirstFaults.{fault_none, fault_next, stops, goes_on}
+use Rattle.record_fields.specs.Runs.{field_number_at, fits, run_told}
+use Rattle.record_fields.proofs.ToldFaults.{run_told-none, run_told-next, run_told-append}
 use Rattle.record_short.specs.ShortRecords.{row_in, row_rises, has_weight, row_number, triples_fields}
 use Rattle.record_short.proofs.ShortSound.{rises_so, small_within}
 use Rattle.record_short_check.specs.ShortChecks.{passes, triple_told, values_told, triples_told}
@@ -45,9 +44,9 @@ triple_fields : List Field
 triple_fields = row_number ∷ multiplier ∷ multiplier ∷ []
 
 -- a row is never out of range
-past_row : (bytes : List ℕ) (at : ℕ) → little_at 2 bytes at ≤ 65535 → fault (replicate 2 multiplier) bytes (at + 2) ≡ fault triple_fields bytes at
+past_row : (bytes : List ℕ) (at : ℕ) → little_at 2 bytes at ≤ 65535 → run_told triple_fields bytes at ≡ run_told (replicate 2 multiplier) bytes (at + 2)
 unfolding triple_fields row_number fits field_number_at number width little_at
-past_row bytes at low = sym (fault_next bytes row_number (multiplier ∷ multiplier ∷ []) at (small_within 65535 _ low))
+past_row bytes at low = run_told-next bytes row_number (multiplier ∷ multiplier ∷ []) at (small_within 65535 _ low)
 
 low_row : (m : ℕ) (bytes : List ℕ) (i : ℕ) → m ≤ 64 → row_rises m bytes i ≡ true → little_at 2 bytes (8 + 6 * i) ≤ 65535
 unfolding row_in
@@ -64,25 +63,13 @@ widths_triples zero = omega arith
 widths_triples (suc count) = omega (arith, widths_triples count)
 
 values_none : (bytes : List ℕ) → values_told bytes 0 ≡ done
-unfolding values_told ended triples_fields
-values_none bytes = rw (fault_none bytes 8)
+unfolding values_told triples_fields
+values_none bytes = run_told-none bytes 8
 
 -- one triple more
-values_more : (bytes : List ℕ) (i : ℕ) → (values_told bytes i then ended (fault triple_fields bytes (8 + 6 * i)) (14 + 6 * i)) ≡ values_told bytes (i + 1)
-unfolding values_told ended ◌then◌
-values_more bytes i =
-    let so_far = fault (triples_fields i) bytes 8 in
-    let end : 8 + 6 * i ≡ 8 + widths (triples_fields i) = rw widths_triples in
-    let next : 8 + 6 * suc i ≡ 14 + 6 * i = omega arith in
-    rw (add-one i, triples_more i, next)
-    (elim (dec_lt so_far (8 + 6 * i)) [
-      | yes early ↦
-          let before : so_far < 14 + 6 * i = omega arith in
-          rw (← stops bytes (triples_fields i) triple_fields 8 (8 + 6 * i) so_far end refl early, lt-ltb _ _ early, lt-ltb _ _ before)
-      | no late ↦
-          let past : 8 + 6 * i ≤ so_far = omega arith in
-          rw (← goes_on bytes (triples_fields i) triple_fields 8 (8 + 6 * i) so_far end refl past, le-ltb _ _ past)
-    ])
+values_more : (bytes : List ℕ) (i : ℕ) → (values_told bytes i then run_told triple_fields bytes (8 + 6 * i)) ≡ values_told bytes (i + 1)
+unfolding values_told
+values_more bytes i = rw (add-one i, triples_more i, run_told-append, widths_triples i)
 
 -- an answer that gives nothing
 abbrev pub telling : Result (Unit {0}) Fault → Result (Unit {0}) Fault
@@ -106,16 +93,16 @@ module _ (m : ℕ) (bytes : List ℕ) (count : ℕ) where
   walk_start = record { inside = omega arith; passed = λ k below. absurd (omega arith); kept = gives tt (values_none bytes) }
 
   module _ (i : ℕ) (values : Result (Unit {0}) Fault) (w : SoFar i values) where
-    pub walk_more : m ≤ 64 → i < count → telling (Ok tt) ≡ result_of (triple_told m bytes i) tt → (at : ℕ)
-        → at ≡ fault (replicate 2 multiplier) bytes (10 + 6 * i) → SoFar (i + 1) (result_and values (result_of (ended at (14 + 6 * i)) tt))
-    walk_more few below right at out =
+    pub walk_more : m ≤ 64 → i < count → telling (Ok tt) ≡ result_of (triple_told m bytes i) tt
+        → SoFar (i + 1) (result_and values (result_of (run_told (replicate 2 multiplier) bytes (10 + 6 * i)) tt))
+    walk_more few below right =
         let here = triple_done m bytes i (told_done (triple_told m bytes i) tt tt right) in
         let start : 10 + 6 * i ≡ 8 + 6 * i + 2 = omega arith in
-        let fields : at ≡ fault triple_fields bytes (8 + 6 * i) = out ∙ rw start (past_row bytes (8 + 6 * i) (low_row m bytes i few here.0)) in
+        let fields = past_row bytes (8 + 6 * i) (low_row m bytes i few here.0) in
         record {
           inside = omega arith;
           passed = λ k early. elim (dec_lt k i) [ yes h ↦ w.passed k h | no h ↦ let same : k ≡ i = omega arith in rw same (true_both _ _ here.0 here.1) ];
-          kept = rw (w.kept, fields) (both_told _ _ ∙ ap (λ t. result_of t tt) (values_more bytes i));
+          kept = rw (w.kept, start, ← fields) (both_told _ _ ∙ ap (λ t. result_of t tt) (values_more bytes i));
         }
 
     pub walk_stops : i < count → (f : Fault) → telling (Err f) ≡ result_of (triple_told m bytes i) tt → telling (Err f) ≡ result_of (triples_told m bytes count) tt

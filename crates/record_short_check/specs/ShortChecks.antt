@@ -2,8 +2,7 @@
 use Rattle.std.specs.Prelude.{ℕ, ◌+◌, ◌*◌, Bool, cond, ◌&&◌, List, [], ◌∷◌, eqb}
 use Rattle.refusal.specs.Places.{before_failing}
 use Rattle.refusal.specs.Tests.{Told, ◌at◌unless◌, first}
-use Rattle.record_check.specs.Checks.{ended}
-use Rattle.record_fields.specs.Runs.{fault}
+use Rattle.record_fields.specs.Runs.{run_told}
 use Rattle.record_short.specs.ShortRecords.{row_rises, has_weight, triples_fields}
 
 -- where triple i stands, and whether it passes
@@ -19,7 +18,7 @@ triple_told m bytes = first ((15 at triple_place unless row_rises m bytes) ∷ (
 
 -- what is told of the values of the first `count` triples
 unfoldable pub values_told : List ℕ → ℕ → Told
-values_told bytes count = ended (fault (triples_fields count) bytes 8) (triple_place count)
+values_told bytes count = run_told (triples_fields count) bytes 8
 
 -- what is told of the first `count` triples: of the first that fails, or else of their values
 unfoldable pub triples_told : ℕ → List ℕ → ℕ → Told

@@ -1,5 +1,5 @@
 -- `record_short_check::triples` meets its contract.
-use Rattle.std.proofs.Common.{◌≡◌, ◌+◌, ◌-◌, ◌*◌, ◌∙◌, sym, arith, rules, Err}
+use Rattle.std.proofs.Common.{◌≡◌, ◌∙◌, sym, arith, rules, Err}
 use Rattle.record_short_check.proofs.TripleWalks.{walk_start, walk_more, walk_stops, walk_ends}
 use Rattle.record_short_check.proofs.triples.Goals as goal
 
@@ -17,11 +17,8 @@ returns-in_err-triple c =
 pub loop-i-preserved : goal.loop-i-preserved
 loop-i-preserved c =
     let a = c.args in
-    let at = c.multipliers_fault-at in
-    let start : 14 + 6 * c.loop-i.i - 4 ≡ 10 + 6 * c.loop-i.i = omega arith in
-    rw (c.and-values.ensures, c.ends.ensures)
-    (walk_more a.m a.bytes.now a.count c.loop-i.i c.loop-i.values c.loop-i.invariant c.requires.1 c.loop-i-test.true (sym c.in_ok-triple.was ∙ c.triple.ensures) at.result
-    (at.ensures ∙ rw start))
+    rw (c.and-values.ensures, c.multipliers_fault.ensures)
+    (walk_more a.m a.bytes.now a.count c.loop-i.i c.loop-i.values c.loop-i.invariant c.requires.1 c.loop-i-test.true (sym c.in_ok-triple.was ∙ c.triple.ensures))
 
 pub returns : goal.returns
 returns c = let a = c.args in walk_ends a.m a.bytes.now a.count c.loop-i.i c.loop-i.values c.loop-i.invariant (omega arith)
