@@ -1,7 +1,6 @@
 pub mod FieldBounds
 pub mod FirstFaults
 pub mod StoredInRange
-pub mod Walks
 pub mod BodyParts
 pub mod Copies
 pub mod Forms
