@@ -16,3 +16,5 @@ pub mod Samples
 pub mod Wants
 -- what a writing answers, and its order
 pub mod Writers
+-- the answer of what was written
+pub mod Writings

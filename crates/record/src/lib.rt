@@ -1,6 +1,11 @@
 // Records on file: which kinds a call wants, and what a reading and a writing answer.
 #![tactic(auto)]
 
+ghost use Rattle.std.specs.Prelude.{◌≡◌};
+ghost use Rattle.record.specs.Writings.{written_of};
+
+use refusal::Fault;
+
 // The kinds of certificate that a call wants, 2 to 4; any other kind gives 4.
 #[derive(Clone, Copy)]
 pub struct Wanted {
@@ -26,4 +31,24 @@ pub struct Writing {
     pub number: usize,
     pub place: usize,
     pub written: usize,
+}
+
+impl Writing {
+    // The bytes written, or the refusal.
+    pub fn of(done: Result<usize, Fault>) -> Writing
+        ensures { result ≡ written_of done }
+    {
+        match done {
+            Ok(written) => Writing {
+                number: 0,
+                place: 0,
+                written,
+            },
+            Err(fault) => Writing {
+                number: fault.number,
+                place: fault.place,
+                written: 0,
+            },
+        }
+    }
 }

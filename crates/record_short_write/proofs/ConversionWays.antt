@@ -15,6 +15,7 @@ use Rattle.refusal.proofs.TestLaws.{passed, failed, passes_done, done_passes, fi
 use Rattle.record.specs.declared.Wanted.{Wanted}
 use Rattle.record.specs.Readers as R
 use Rattle.record.specs.Readers.{sound}
+use Rattle.record.specs.Writings.{written_of}
 use Rattle.record.proofs.CountLimits.{rows_most}
 use Rattle.record_check.specs.declared.Checked.{Checked}
 use Rattle.record_check.specs.Checks.{checks, certificate_check}
@@ -28,11 +29,11 @@ use Rattle.record_short.proofs.LongRecords.{length_long}
 use Rattle.record_short.proofs.LongSound.{long_sound}
 use Rattle.record_short.proofs.ShortBytes.{length_short}
 use Rattle.record_short.proofs.ShortSound.{ShortSound, sound_short_bytes}
-use Rattle.record_short_write.specs.Rooms.{written_of, Lengthens, Lists}
+use Rattle.record_short_write.specs.Rooms.{Lengthens, Lists}
 
 -- what a call answers of what is told
 pub converts : (told : Told) (record_bytes : List ℕ) (long : ℕ) → length record_bytes ≡ long → written_of (result_of told long) ≡ converted told record_bytes
-unfolding written_of result_of converted
+unfolding result_of converted
 converts done record_bytes long is = rw (← is)
 converts (refused k p) record_bytes long is = refl
 

@@ -1,16 +1,9 @@
 -- What the parts of the two calls answer and leave in a room; the calls themselves answer by `Conversions` of `record_short`.
-use Rattle.std.specs.Prelude.{ℕ, zero, suc, ◌+◌, ◌*◌, ◌≤◌, ◌<◌, ◌≡◌, Bool, cond, not, ◌&&◌, List, [], ◌∷◌, ◌++◌, eqb, length, take, drop, Result, Ok, Err}
+use Rattle.std.specs.Prelude.{ℕ, zero, suc, ◌+◌, ◌*◌, ◌≤◌, ◌<◌, ◌≡◌, Bool, cond, not, ◌&&◌, List, [], ◌∷◌, ◌++◌, eqb, length, take, drop}
 use Rattle.endian.specs.Numbers.{digits}
-use Rattle.refusal.specs.declared.Fault.{Fault}
 use Rattle.refusal.specs.Places.{Throughout}
-use Rattle.record.specs.declared.Writing.{Writing}
 use Rattle.record_short.specs.Conversions.{long_Y, long_Z, rows_with_weight, triples_bytes}
 use Rattle.record_short.specs.ShortRecords.{triples_in, row_in, Y-in, Z-in}
-
--- what a call answers: the bytes written, or a refusal
-unfoldable pub written_of : Result ℕ Fault → Writing
-written_of (Ok written) = record { number = 0; place = 0; written = written }
-written_of (Err fault) = record { number = fault.number; place = fault.place; written = 0 }
 
 -- ---- kind 7 to kind 2
 

@@ -10,27 +10,9 @@ ghost use Rattle.record_short.specs.Conversions.{lengthening_told, lengthens, le
 ghost use Rattle.record_short.specs.ShortRecords.{triples_in, long_bytes};
 ghost use Rattle.record_short_write.specs.Rooms.{with_triple, with_triples, Lengthens};
 ghost use Rattle.record_short_write.specs.Rooms.{row_weighs, listed, with_row, with_rows, Lists};
-ghost use Rattle.record_short_write.specs.Rooms.{written_of};
 
 use record::{Wanted, Writing};
 use refusal::{Fault, refused};
-
-fn writing(done: Result<usize, Fault>) -> Writing
-    ensures { result ≡ written_of done }
-{
-    match done {
-        Ok(written) => Writing {
-            number: 0,
-            place: 0,
-            written,
-        },
-        Err(fault) => Writing {
-            number: fault.number,
-            place: fault.place,
-            written: 0,
-        },
-    }
-}
 
 // ---- kind 7 to kind 2: zeros for every row, and then the triples, each at its row's places
 
@@ -90,7 +72,7 @@ pub fn lengthen(bytes: &[u8], n: usize, m: usize, room: &mut [u8]) -> Writing
     ensures value { result ≡ lengthens bytes.now n m room.old }
     ensures room_after { room.new ≡ lengthened_room bytes.now n m room.old }
 {
-    writing(lengthened(bytes, n, m, room))
+    Writing::of(lengthened(bytes, n, m, room))
 }
 
 // ---- kind 2 to kind 7: the rows that have weight, counted and then written one after another
@@ -177,5 +159,5 @@ pub fn shorten(bytes: &[u8], n: usize, m: usize, room: &mut [u8]) -> Writing
     ensures value { result ≡ shortens bytes.now n m room.old }
     ensures room_after { room.new ≡ shortened_room bytes.now n m room.old }
 {
-    writing(shortened(bytes, n, m, room))
+    Writing::of(shortened(bytes, n, m, room))
 }
