@@ -1,5 +1,5 @@
 -- What a batch's check of its loop tells, for a loop of either kind: which judge it leads to, how long the bytes are, and that n stands at byte 6.
-use mathlib.Core.Path.{◌≡◌, refl, sym, ap, ◌∙◌}
+use mathlib.Core.Path.{◌≡◌, refl, sym, ◌∙◌}
 use Prim.Native.Nat.{ℕ, ◌≤◌}
 use mathlib.Core.Bool.{true, false}
 use mathlib.Core.List.{List, []}
@@ -8,16 +8,11 @@ use lib.ListN.{length, drop}
 use Rattle.endian.specs.Numbers.{little_at}
 use Rattle.record.specs.Layouts.{is_loop}
 use Rattle.record.specs.Readers.{framing, stated_length, counts_read, sound, loop_reader}
-use Rattle.record_check.specs.Checks.{checked, checks}
-use Rattle.record_check.specs.declared.Checked.{Checked}
-use Rattle.record_paths.specs.PathFields.{bytes_alone, is_kind, holds_counts, is_long, fields_fit}
+use Rattle.record_paths.specs.PathFields.{bytes_alone}
 use Rattle.record_paths.specs.PathLoops.{variables_in, sound_paths}
 use Rattle.record_paths.proofs.PathsSound.{paths_sound}
-use Rattle.refusal.specs.Faults.{fault_of}
-use Rattle.refusal.specs.Tests.{Told, done, refused, first, number, place}
-use Rattle.refusal.specs.declared.Fault.{Fault}
-use Rattle.refusal.proofs.FaultLaws.{Named}
-use Rattle.refusal.proofs.TestLaws.{either, zero_done, first_told}
+use Rattle.refusal.specs.Tests.{done, refused, first}
+use Rattle.refusal.proofs.TestLaws.{either, first_told}
 use Rattle.verdict.specs.Pairs.{loop_record}
 use Rattle.verdict_paths.specs.JudgingByLoop.{of_paths}
 use Rattle.judge.specs.SoundPairs.{LoopSound}
@@ -43,23 +38,6 @@ module _ (loopbytes : List ℕ) where
       either (of_paths loopbytes)
       (λ e. as_paths e ∙ first_told framing (drop 4 sound_paths) (bytes_alone loopbytes) k q told)
       (λ e. as_rows e ∙ loop_alike loopbytes k q told)
-
-  -- ---- the check's answer
-
-  pub fault_checked : (v : Checked) → v ≡ checks (loop_reader loopbytes []) → record { number = v.number; place = v.place } ≡ fault_of (first sound (loop_record loopbytes))
-  unfolding loop_reader loop_record checks checked fault_of number place
-  fault_checked v is = ap (λ (x : Checked). record { number = x.number; place = x.place }) is ∙ by_told (first sound (loop_record loopbytes))
-    where
-      by_told : (t : Told) → (let x = checked t (loop_record loopbytes) in ◌≡◌ {A = Fault} (record { number = x.number; place = x.place }) (fault_of t))
-      by_told done = refl
-      by_told (refused k p) = refl
-
-  pub loop_named : Named (loop_told loopbytes)
-  unfolding loop_told sound_paths is_kind holds_counts is_long fields_fit sound
-  loop_named =
-      either (of_paths loopbytes)
-      (λ e. rw e (zero_done sound_paths (bytes_alone loopbytes) refl))
-      (λ e. rw e (zero_done sound (loop_record loopbytes) refl))
 
   -- ---- a sound loop
 

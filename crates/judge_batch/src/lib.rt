@@ -3,7 +3,7 @@
 #![tactic(auto)]
 
 ghost use Rattle.std.specs.Prelude.{◌+◌, ◌*◌, ◌-◌, ◌≤◌, ◌≡◌, length, take, drop};
-ghost use Rattle.refusal.specs.Faults.{fault_of};
+ghost use Rattle.refusal.specs.Faults.{result_of};
 ghost use Rattle.refusal.specs.Tests.{done};
 ghost use Rattle.judge.specs.SoundPairs.{LoopSound};
 ghost use Rattle.judge_by_kind.specs.PastFrames.{Past};
@@ -19,24 +19,15 @@ use verdict_flat::FlatVerdict;
 // ---- the refusals
 
 // What the tests of a loop record tell, by its kind.
-fn check_loop(loopbytes: &[u8]) -> Fault
-    ensures { result ≡ fault_of (loop_told loopbytes.now) }
+fn check_loop(loopbytes: &[u8]) -> Result<(), Fault>
+    ensures { result ≡ result_of (loop_told loopbytes.now) tt }
 {
-    let head = record_check::frame(loopbytes);
-    if head.number != 0 {
-        return Fault {
-            number: head.number,
-            place: head.place,
-        };
-    }
+    record_check::frame(loopbytes)?;
     if endian::u16_at(loopbytes, 4) == 5 {
         return record_paths_check::check_paths(loopbytes);
     }
-    let said = record_check::check_loop(loopbytes);
-    Fault {
-        number: said.number,
-        place: said.place,
-    }
+    record_check::check_loop(loopbytes)?;
+    Ok(())
 }
 
 // A refusal of the whole batch: no record is judged.
@@ -44,9 +35,9 @@ fn refused(about: usize, number: usize, place: usize) -> Batched
     ensures { result ≡ record { number = number; place = place; about = about; count = 0 } }
 {
     Batched {
-        number: number,
-        place: place,
-        about: about,
+        number,
+        place,
+        about,
         count: 0,
     }
 }
@@ -55,8 +46,7 @@ fn refused(about: usize, number: usize, place: usize) -> Batched
 pub fn enter(loopbytes: &[u8], bytes: &[u8], places: usize, numbers: usize) -> Batched
     ensures { result ≡ batch_answers (batch_of loopbytes.now bytes.now places numbers) }
 {
-    let fault = check_loop(loopbytes);
-    if fault.number != 0 {
+    if let Err(fault) = check_loop(loopbytes) {
         return refused(1, fault.number, fault.place);
     }
     let count = record_parting::count(bytes);
@@ -74,7 +64,7 @@ pub fn enter(loopbytes: &[u8], bytes: &[u8], places: usize, numbers: usize) -> B
         number: 0,
         place: 0,
         about: 0,
-        count: count,
+        count,
     }
 }
 
@@ -89,8 +79,8 @@ fn judge_others(
     kind: usize,
     rank: &mut [i64],
 ) -> Verdict
-    requires past { Past loopbytes.now certificate.now n m kind }
-    requires fact { (kind ≡ 2 → ⊥) × (kind ≡ 4 → ⊥) × (kind ≡ 8 → ⊥) }
+    requires past_frame { Past loopbytes.now certificate.now n m kind }
+    requires other_kind { (kind ≡ 2 → ⊥) × (kind ≡ 4 → ⊥) × (kind ≡ 8 → ⊥) }
     ensures { (result ≡ answered loopbytes.now certificate.now rank.old)
         × (rank.new ≡ rank_answered loopbytes.now certificate.now rank.old) }
 {
@@ -115,9 +105,8 @@ fn flat_certificate(
     ensures { (result ≡ flat_verdict (answered loopbytes.now certificate.now rank.old))
         × (rank.new ≡ rank_answered loopbytes.now certificate.now rank.old) }
 {
-    let head = record_check::frame(certificate);
-    if head.number != 0 {
-        return FlatVerdict::from(judge::refused(2, head.number, head.place));
+    if let Err(fault) = record_check::frame(certificate) {
+        return FlatVerdict::from(judge::refused(2, fault.number, fault.place));
     }
     let kind = endian::u16_at(certificate, 4);
     match kind {
@@ -143,9 +132,9 @@ pub fn flat_part(
     i: usize,
     ranks: &mut [i64],
 ) -> FlatVerdict
-    requires loopbytes_value { loop_told loopbytes.now ≡ done }
-    requires from_le_end { (from ≤ end) × (end ≤ length bytes.now) }
-    requires loopbytes_in_bounds { variables loopbytes.now * i + variables loopbytes.now ≤ length ranks.old }
+    requires loop_sound { loop_told loopbytes.now ≡ done }
+    requires in_order { (from ≤ end) × (end ≤ length bytes.now) }
+    requires room { variables loopbytes.now * i + variables loopbytes.now ≤ length ranks.old }
     ensures { (result ≡ flat_verdict (answered loopbytes.now (take (end - from) (drop from bytes.now))
         (stretch (variables loopbytes.now) i ranks.old)))
         × (ranks.new ≡ with_stretch (variables loopbytes.now) i
@@ -171,9 +160,9 @@ pub fn judge_part(
     i: usize,
     ranks: &mut [i64],
 ) -> Verdict
-    requires loopbytes_value { loop_told loopbytes.now ≡ done }
-    requires from_le_end { (from ≤ end) × (end ≤ length bytes.now) }
-    requires loopbytes_in_bounds { variables loopbytes.now * i + variables loopbytes.now ≤ length ranks.old }
+    requires loop_sound { loop_told loopbytes.now ≡ done }
+    requires in_order { (from ≤ end) × (end ≤ length bytes.now) }
+    requires room { variables loopbytes.now * i + variables loopbytes.now ≤ length ranks.old }
     ensures { (result ≡ answered loopbytes.now (take (end - from) (drop from bytes.now)) (stretch (variables loopbytes.now) i ranks.old))
         × (ranks.new ≡ with_stretch (variables loopbytes.now) i
         (rank_answered loopbytes.now (take (end - from) (drop from bytes.now)) (stretch (variables loopbytes.now) i ranks.old))
