@@ -22,7 +22,7 @@ fn last_part(input: &[u8], written: usize) -> Part
     ensures { (result.written ≡ written) × (result.place ≡ length input.now) × (result.count ≡ 1) }
 {
     Part {
-        written: written,
+        written,
         place: input.len(),
         count: 1,
         n: 0,
@@ -42,16 +42,15 @@ pub fn first_part(input: &[u8], room: &mut [u8]) -> Part
     let end = record_parting::first_end(input);
     let loopbytes = &input[..end];
     let written = sheet_put::put_judged(room, loopbytes, &input[..0]);
-    let found = record_check::check_loop(loopbytes);
-    if found.number != 0 {
-        return last_part(input, written);
-    }
-    Part {
-        written: written,
-        place: end,
-        count: 1,
-        n: found.n,
-        m: found.m,
+    match record_check::check_loop(loopbytes) {
+        Ok(found) => Part {
+            written,
+            place: end,
+            count: 1,
+            n: found.n,
+            m: found.m,
+        },
+        Err(_) => last_part(input, written),
     }
 }
 
@@ -81,10 +80,10 @@ pub fn next_part(input: &[u8], last: Part, room: &mut [u8]) -> Part
         count += 1;
     }
     Part {
-        written: written,
-        place: place,
-        count: count,
-        n: n,
-        m: m,
+        written,
+        place,
+        count,
+        n,
+        m,
     }
 }

@@ -59,13 +59,14 @@ pub fn put_judged(text: &mut [u8], loopbytes: &[u8], certificates: &[u8]) -> usi
     requires { length (judged (first sound (loop_record loopbytes.now)) loopbytes.now certificates.now) ≤ length text.old }
     ensures { Puts text.old 0 (judged (first sound (loop_record loopbytes.now)) loopbytes.now certificates.now) result text.new }
 {
-    let found = record_check::check_loop(loopbytes);
     let at = sheet_write_lines::put_bytes(text, 0, b"loop ");
-    if found.number != 0 {
-        return sheet_write_lines::put_refusal(text, at, found.number, found.place);
+    match record_check::check_loop(loopbytes) {
+        Ok(found) => {
+            let at = sheet_write_lines::put_pair(text, at, found.n, found.m);
+            put_certificates(text, at, loopbytes, found.n, found.m, certificates)
+        }
+        Err(fault) => sheet_write_lines::put_refusal(text, at, fault.number, fault.place),
     }
-    let at = sheet_write_lines::put_pair(text, at, found.n, found.m);
-    put_certificates(text, at, loopbytes, found.n, found.m, certificates)
 }
 
 // Writes the text of an input.
