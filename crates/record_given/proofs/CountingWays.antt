@@ -1,4 +1,5 @@
 -- The ways through the first tests of the order for a writing, kind and counts, over plain numbers: what is answered at each return.
+use Rattle.std.specs.Prelude.{Result, Ok, Err}
 use mathlib.Core.Path.{◌≡◌, refl, ◌∙◌}
 use Prim.Native.Nat.{ℕ, ◌≤◌, ◌<◌}
 use mathlib.Core.Bool.{true, false, ◌&&◌}
@@ -6,7 +7,9 @@ use mathlib.Core.List.{List, [], ◌∷◌}
 use lib.IntN.{ℤ, pos, nat_abs}
 use lib.ListN.{length, drop}
 use borrow.Author.Tests.{le-leb, lt-leb}
+use Rattle.refusal.specs.declared.Fault.{Fault}
 use Rattle.refusal.specs.Tests.{done, refused, first}
+use Rattle.refusal.proofs.FaultLaws.{gives, refuses}
 use Rattle.refusal.proofs.TestLaws.{passed, failed, passes_done}
 use Rattle.record.specs.Fields.{width}
 use Rattle.record.specs.Layouts.{kind_of, is_loop, is_lasso, variable_count, row_count, counts}
@@ -14,12 +17,19 @@ use Rattle.record.specs.Ranges.{variables, rows, within}
 use Rattle.record.specs.Writers.{Writer, kind, ms_given, counts_given, numbers_ahead, argument_place, writing, writer}
 use Rattle.record.specs.Wants.{kinds_written}
 use Rattle.record_fields.proofs.FirstFaults.{before_next, before_here}
-use Rattle.record_given.specs.Settled.{refusal, given, counting, counted}
+use Rattle.record_given.specs.Settled.{given, counting, counted}
+
+abbrev pub refusal : ℕ → ℕ → Result ℕ Fault
+refusal number place = Err (record { number = number; place = place })
 
 module _ (w : Writer) where
   tells : {k p : ℕ} → first counting w ≡ refused k p → refusal k p ≡ counted w
   unfolding counted given
-  tells h = rw h
+  tells h = refuses _ h
+
+  gave : {ms : ℕ} → first counting w ≡ done → ms ≡ (counts_given w).ms → Ok ms ≡ counted w
+  unfolding counted given
+  gave h is = rw is (gives _ h)
 
   pub unknown : kinds_written (kind w) ≡ false → refusal 4 4 ≡ counted w
   unfolding counting writing
@@ -35,11 +45,10 @@ module _ (w : Writer) where
       unfolding counting writing
       past_arguments = passed _ _ _ _ w written ∙ passed _ _ _ _ w fit
 
-      pub plain_counted : is_lasso (kind w) ≡ false → refusal 0 0 ≡ counted w
-      unfolding counting writing counted given counts_given
+      pub plain_counted : is_lasso (kind w) ≡ false → Ok 0 ≡ counted w
+      unfolding counting writing counts_given
       plain_counted no_lasso =
-          let told : first counting w ≡ done = past_arguments ∙ passed _ _ _ _ w (rw no_lasso) ∙ passed _ _ _ _ w (rw no_lasso) ∙ passes_done [] w tt in
-          rw (told, no_lasso)
+          gave (past_arguments ∙ passed _ _ _ _ w (rw no_lasso) ∙ passed _ _ _ _ w (rw no_lasso) ∙ passes_done [] w tt) (rw no_lasso)
 
       module _ (lasso : is_lasso (kind w) ≡ true) where
         pub no_ms : length w.list < 1 → refusal 12 1 ≡ counted w
@@ -51,11 +60,10 @@ module _ (w : Writer) where
           unfolding counting writing
           bad_ms h = tells (past_arguments ∙ passed _ _ _ _ w (rw (lasso, le-leb _ _ some)) ∙ failed _ _ _ _ w (rw (lasso, h)))
 
-          pub lasso_counted : within rows (ms_given w) ≡ true → record { number = 0; place = 0; ms = nat_abs (ms_given w) } ≡ counted w
-          unfolding counting writing counted given counts_given
+          pub lasso_counted : within rows (ms_given w) ≡ true → Ok (nat_abs (ms_given w)) ≡ counted w
+          unfolding counting writing counts_given
           lasso_counted h =
-              let told : first counting w ≡ done = past_arguments ∙ passed _ _ _ _ w (rw (lasso, le-leb _ _ some)) ∙ passed _ _ _ _ w (rw (lasso, h)) ∙ passes_done [] w tt in
-              rw (told, lasso)
+              gave (past_arguments ∙ passed _ _ _ _ w (rw (lasso, le-leb _ _ some)) ∙ passed _ _ _ _ w (rw (lasso, h)) ∙ passes_done [] w tt) (rw lasso)
 
 -- kind 1, whose n and m have places
 module _ (n m : ℕ) (zs : List ℤ) where
@@ -78,7 +86,7 @@ module _ (n m : ℕ) (zs : List ℤ) where
         rw (before_next variable_count (row_count ∷ []) (pos n) (pos m ∷ []) n_fits, before_here row_count [] (pos m) [] h) at
         (bad_arguments a_loop a_loop_written (rw (n_fits, h)))
 
-    pub loop_counted : within rows (pos m) ≡ true → refusal 0 0 ≡ counted (writer 1 n m zs [])
+    pub loop_counted : within rows (pos m) ≡ true → Ok 0 ≡ counted (writer 1 n m zs [])
     unfolding a_loop writer kind kind_of is_lasso
     loop_counted h = plain_counted a_loop a_loop_written (rw (n_fits, h)) refl
 

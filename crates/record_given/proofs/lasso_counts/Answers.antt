@@ -1,5 +1,6 @@
 -- `record_given::lasso_counts` meets its contract: at each return the way through the tests is the code's.
 use Rattle.std.proofs.Common.{◌≡◌, ◌≤◌, ◌<◌, refl, sym, ◌∙◌, true, [], pos, slice_index_or, length, arith, rules}
+use Rattle.std.proofs.lemmas.Bool.Decides.{nat_tests}
 use mir.Syntax.{w64}
 use mir.Val.{SFits}
 use mir.Facts.{to_z-of_z, Fits-of_lt}
@@ -17,13 +18,13 @@ returns-then-not-arguments_fit c =
     let a = c.args in
     c.refused.ensures ∙ certificate_arguments (writer 4 a.n a.m a.values.now []) refl refl (sym c.arguments_fit.ensures ∙ c.if-not-arguments_fit.true)
 
-pub returns-then-values-lt1 : goal.returns-then-values-lt1
+pub returns-then-is_empty : goal.returns-then-is_empty
 unfolding writer kind kind_of kinds_written is_lasso
-returns-then-values-lt1 c =
+returns-then-is_empty c =
     let a = c.args in
     let fit = sym c.arguments_fit.ensures ∙ c.if-not-arguments_fit.false in
-    let none : length a.values.now < 1 = omega arith in
-    c.refused-then-values-lt1.ensures ∙ no_ms (writer 4 a.n a.m a.values.now []) refl fit refl none
+    let none : length a.values.now < 1 = grind (arith, nat_tests) in
+    c.refused-then-is_empty.ensures ∙ no_ms (writer 4 a.n a.m a.values.now []) refl fit refl none
 
 pub returns-then-not-between : goal.returns-then-not-between
 unfolding writer kind kind_of kinds_written is_lasso ms_given rows ◌to◌
@@ -31,7 +32,7 @@ returns-then-not-between c =
     let a = c.args in
     let fit = sym c.arguments_fit.ensures ∙ c.if-not-arguments_fit.false in
     let ms : SFits w64 (slice_index_or a.values.now 0 (pos 0)) = search rules in
-    let some : 1 ≤ length a.values.now = omega arith in
+    let some : 1 ≤ length a.values.now = grind (arith, nat_tests) in
     let out = rw (to_z-of_z ms) at (sym c.between.ensures ∙ c.if-not-between.true) in
     c.refused-then-not-between.ensures ∙ bad_ms (writer 4 a.n a.m a.values.now []) refl fit refl some out
 
@@ -50,5 +51,5 @@ returns c =
     let fit = sym c.arguments_fit.ensures ∙ c.if-not-arguments_fit.false in
     let ms : SFits w64 (slice_index_or a.values.now 0 (pos 0)) = search rules in
     let small : within rows (slice_index_or a.values.now 0 (pos 0)) ≡ true = rw (to_z-of_z ms) at (sym c.between.ensures ∙ c.if-not-between.false) in
-    let some : 1 ≤ length a.values.now = omega arith in
+    let some : 1 ≤ length a.values.now = grind (arith, nat_tests) in
     rw (to_z-of_z ms) (lasso_counted (writer 4 a.n a.m a.values.now []) refl fit refl some small)
