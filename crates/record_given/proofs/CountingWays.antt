@@ -19,6 +19,7 @@ use Rattle.record.specs.Wants.{kinds_written}
 use Rattle.record_fields.proofs.FirstFaults.{before_next, before_here}
 use Rattle.record_given.specs.Settled.{given, counting, counted}
 
+-- a refusal of what gives a number
 abbrev pub refusal : ℕ → ℕ → Result ℕ Fault
 refusal number place = Err (record { number = number; place = place })
 

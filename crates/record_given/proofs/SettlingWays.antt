@@ -2,9 +2,8 @@
 use Rattle.std.specs.Prelude.{Ok, Err}
 use mathlib.Core.Path.{◌≡◌, refl, sym, ap, ◌∙◌}
 use Prim.Native.Nat.{ℕ, ◌+◌, ◌≤◌}
-use mathlib.Core.List.{List, []}
+use mathlib.Core.List.{[]}
 use native.Mathlib.Omega.{arith}
-use lib.IntN.{ℤ}
 use lib.ListN.{length, drop}
 use borrow.Author.Tests.{eq-eqb, ne_eqb}
 use Rattle.refusal.specs.declared.Fault.{Fault}
@@ -93,6 +92,6 @@ module _ (w : Writer) where
       all_settled h = rw (values_told, ← ms_is) (went_on _ tt tt ms h)
 
 -- a writing's tests but the last say nothing of the room
-pub any_room : (k n m : ℕ) (zs : List ℤ) (room : List ℕ) → settled (writer k n m zs []) ≡ settled (writer k n m zs room)
+pub any_room : (w : Writer) → settled (writer w.kind_number w.n w.m w.list []) ≡ settled w
 unfolding settled given settling writing first kind ms_given counts_given fields numbers_ahead argument_place writer
-any_room k n m zs room = refl
+any_room w = refl

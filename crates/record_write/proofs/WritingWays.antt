@@ -1,4 +1,5 @@
 -- The ways through a writing: what a settled or refused call answers, and what it leaves in the room.
+use Rattle.std.specs.Prelude.{Ok, Err}
 use mathlib.Core.Path.{◌≡◌, refl, ap, ◌∙◌}
 use Prim.Native.Nat.{ℕ, ◌+◌, ◌≤◌, ◌<◌}
 use mathlib.Core.List.{List, [], ◌++◌}
@@ -8,82 +9,116 @@ use lib.Seq.{sets}
 use borrow.Author.Tests.{le-leb, lt-leb}
 use Rattle.endian.specs.Numbers.{digits}
 use Rattle.endian.proofs.Laws.{length_digits}
-use Rattle.refusal.specs.Tests.{done, refused, first}
+use Rattle.refusal.specs.declared.Fault.{Fault}
+use Rattle.refusal.specs.Faults.{result_of}
+use Rattle.refusal.specs.Tests.{Told, done, refused, first}
 use Rattle.refusal.proofs.TestLaws.{passed, failed, passes_done, done_passes, first_then, first_told}
 use Rattle.record.specs.Layouts.{Counts, length_of}
-use Rattle.record.specs.Writers.{Writer, kind, fields, length_stated, numbers_ahead, record_bytes, writing, answer, filled, writes, room_after}
+use Rattle.record.specs.Writers.{Writer, kind, fields, length_stated, numbers_ahead, record_bytes, writing, answer, filled, writer, writes, room_after}
 use Rattle.record.proofs.KindLaws.{known_small}
 use Rattle.record.proofs.Lengths.{length_law, length_most}
 use Rattle.record_fields.proofs.Copies.{sets_front}
-use Rattle.record_given.specs.declared.Given.{Given}
 use Rattle.record_given.specs.Settled.{settling, settled}
-use Rattle.record_given.proofs.SettledAnswers.{settled_done, settled_refused, says}
+use Rattle.record_given.proofs.CountingWays.{refusal}
+use Rattle.record_given.proofs.SettledAnswers.{Settled, settled_done, settled_refused, says}
+use Rattle.record_given.proofs.SettlingWays.{any_room}
 use Rattle.record_fill.specs.Bodies.{body_bytes}
-use Rattle.record_write.specs.WrittenOut.{ToWrite, refusal}
+use Rattle.record_write.specs.WrittenOut.{ToWrite, bytes_told}
 use Rattle.record_fill.proofs.BodyBytes.{body_long}
 
-module _ (w : Writer) (room : List ℕ) (room_is : w.room ≡ length room) (v : Given) (is : v ≡ settled w) where
-  refuses : {k p : ℕ} → first writing w ≡ refused k p → (refusal k p ≡ writes w) × (room ≡ room_after w room)
-  unfolding writes room_after answer filled
+module _ (w : Writer) (room : List ℕ) (room_is : w.room ≡ length room) where
+  refuses : {k p : ℕ} → first writing w ≡ refused k p → (refusal k p ≡ bytes_told w) × (room ≡ room_after w room)
+  unfolding bytes_told result_of room_after filled
   refuses told = rw told (refl, refl)
 
-  pub pass_on : (v.number ≡ 0 → ⊥) → (refusal v.number v.place ≡ writes w) × (room ≡ room_after w room)
+  -- what came to the writer makes no record
+  pub pass_on : (f : Fault) → Err f ≡ settled (writer w.kind_number w.n w.m w.list []) → (Err f ≡ bytes_told w) × (room ≡ room_after w room)
   unfolding settling writing
-  pass_on some = refuses (first_told settling (drop 6 writing) w v.number v.place (settled_refused w v is some))
+  pass_on f is = refuses (first_told settling (drop 6 writing) w f.number f.place (settled_refused w f (is ∙ any_room w)))
 
-  module _ (zero : v.number ≡ 0) where
+  -- it makes one
+  module _ (ms : ℕ) (is : Ok ms ≡ settled (writer w.kind_number w.n w.m w.list [])) where
+    its : Settled w ms
+    its = says w ms (is ∙ any_room w)
+
+    pub small : (w.n ≤ 16) × (w.m ≤ 64) × (ms ≤ 64)
+    small = (its.variables, its.rows, its.stem_rows)
+
     then : first writing w ≡ first (drop 6 writing) w
     unfolding settling writing
-    then = first_then settling (drop 6 writing) w (done_passes settling w (settled_done w v is zero))
+    then = first_then settling (drop 6 writing) w (done_passes settling w (settled_done w ms (is ∙ any_room w)))
 
-    module _ (long : ℕ) (long_is : long ≡ length_of (kind w) (record { n = w.n; m = w.m; ms = v.ms })) where
+    module _ (long : ℕ) (long_is : long ≡ length_of (kind w) (record { n = w.n; m = w.m; ms = ms })) where
+      pub long_most : long ≤ 4914
+      long_most = rw long_is (length_most (kind w) (record { n = w.n; m = w.m; ms = ms }) its.variables its.rows its.stem_rows)
+
       stated : long ≡ length_stated w
       unfolding length_stated
-      stated = long_is ∙ ap (length_of (kind w)) (says w v is zero).counts_are
+      stated = long_is ∙ ap (length_of (kind w)) its.counts_are
 
-      pub no_room : length room < 4 + long → (refusal 7 (4 + long) ≡ writes w) × (room ≡ room_after w room)
+      pub no_room : length room < 4 + long → (refusal 7 (4 + long) ≡ bytes_told w) × (room ≡ room_after w room)
       unfolding writing
       no_room h =
           let few : w.room < 4 + length_stated w = omega (arith, stated, room_is) in
           rw stated (refuses (then ∙ failed _ _ _ _ w (lt-leb _ _ few)))
 
       module _ (enough : 4 + long ≤ length room) where
-        pub ready : ToWrite w.kind_number (record { n = w.n; m = w.m; ms = v.ms }) long w.list room
+        pub ready : ToWrite w.kind_number (record { n = w.n; m = w.m; ms = ms }) long w.list room
         unfolding kind fields
         ready =
-            let s = says w v is zero in
             record {
-              fitting = record { variables = s.variables; rows = s.rows; counted = rw s.counts_are s.long; fit = rw s.counts_are s.fit };
-              known = s.known;
-              kind_fits = omega (arith, known_small w.kind_number s.known);
+              fitting = record { variables = its.variables; rows = its.rows; counted = rw its.counts_are its.long; fit = rw its.counts_are its.fit };
+              known = its.known;
+              kind_fits = omega (arith, known_small w.kind_number its.known);
               long_is = long_is;
               long_fits = (
-                omega (arith, long_is, length_law (kind w) (record { n = w.n; m = w.m; ms = v.ms }) s.known),
-                omega (arith, long_is, length_most (kind w) (record { n = w.n; m = w.m; ms = v.ms }) s.variables s.rows s.stem_rows),
+                omega (arith, long_is, length_law (kind w) (record { n = w.n; m = w.m; ms = ms }) its.known),
+                omega (arith, long_most),
               );
               room_for = enough;
             }
 
         -- the bytes of the record
         bytes : List ℕ
-        bytes = digits 4 long ++ (digits 2 w.kind_number ++ body_bytes w.kind_number (record { n = w.n; m = w.m; ms = v.ms }) w.list)
+        bytes = digits 4 long ++ (digits 2 w.kind_number ++ body_bytes w.kind_number (record { n = w.n; m = w.m; ms = ms }) w.list)
 
         bytes_are : bytes ≡ record_bytes w
         unfolding bytes record_bytes body_bytes numbers_ahead fields kind
-        bytes_are = rw ((says w v is zero).counts_are, stated)
+        bytes_are = rw (its.counts_are, stated)
 
         bytes_long : length bytes ≡ 4 + long
         unfolding bytes kind
         bytes_long =
-            let c : Counts = record { n = w.n; m = w.m; ms = v.ms } in
+            let c : Counts = record { n = w.n; m = w.m; ms = ms } in
             simp (length-append, length_digits) (omega (arith, long_is, body_long w.kind_number c w.list ready.fitting ready.known))
 
         pub written : {last : List ℕ}
-            → last ≡ sets room 0 (digits 4 long ++ (digits 2 w.kind_number ++ body_bytes w.kind_number (record { n = w.n; m = w.m; ms = v.ms }) w.list))
-            → (record { number = 0; place = 0; written = 4 + long } ≡ writes w) × (last ≡ room_after w room)
-        unfolding writes room_after answer filled writing bytes
+            → last ≡ sets room 0 (digits 4 long ++ (digits 2 w.kind_number ++ body_bytes w.kind_number (record { n = w.n; m = w.m; ms = ms }) w.list))
+            → (Ok (4 + long) ≡ bytes_told w) × (last ≡ room_after w room)
+        unfolding bytes_told result_of room_after filled writing bytes
         written out =
             let enough_stated : 4 + length_stated w ≤ w.room = omega (arith, stated, room_is) in
             let told : first writing w ≡ done = then ∙ passed _ _ _ _ w (le-leb _ _ enough_stated) ∙ passes_done [] w tt in
             let last_is = out ∙ sets_front room bytes (omega (arith, bytes_long)) in
             rw (told, ← stated) (refl, rw (bytes_long, bytes_are) at last_is)
+
+-- ---- the answer
+
+answer_done : (w : Writer) (t : Told) (written : ℕ) → Ok written ≡ result_of t (4 + length_stated w) → record { number = 0; place = 0; written = written } ≡ answer t w
+unfolding result_of answer
+answer_done w done written is = cc
+answer_done w (refused k p) written is = cc
+
+answer_refused : (w : Writer) (t : Told) (f : Fault) → Err f ≡ result_of t (4 + length_stated w) → record { number = f.number; place = f.place; written = 0 } ≡ answer t w
+unfolding result_of answer
+answer_refused w done f is = cc
+answer_refused w (refused k p) f is = cc
+
+module _ (w : Writer) where
+  pub answers : (written : ℕ) → Ok written ≡ bytes_told w → record { number = 0; place = 0; written = written } ≡ writes w
+  unfolding bytes_told writes
+  answers written is = answer_done w (first writing w) written is
+
+  pub answers_refused : (f : Fault) → Err f ≡ bytes_told w → record { number = f.number; place = f.place; written = 0 } ≡ writes w
+  unfolding bytes_told writes
+  answers_refused f is = answer_refused w (first writing w) f is

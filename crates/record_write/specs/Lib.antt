@@ -1,2 +1,2 @@
--- the room after length, kind and body were written
+-- when a record can be written out, and what is told of it
 pub mod WrittenOut

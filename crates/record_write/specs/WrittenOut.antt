@@ -1,7 +1,10 @@
--- When a record can be written out, and what a refusal answers.
-use Rattle.std.specs.Prelude.{ℕ, ◌+◌, ◌≤◌, ◌<◌, ◌≡◌, true, List, ℤ, length}
-use Rattle.record.specs.declared.Writing.{Writing}
+-- When a record can be written out, and what is told of it.
+use Rattle.std.specs.Prelude.{ℕ, ◌+◌, ◌≤◌, ◌<◌, ◌≡◌, true, List, ℤ, length, Result}
+use Rattle.refusal.specs.declared.Fault.{Fault}
+use Rattle.refusal.specs.Faults.{result_of}
+use Rattle.refusal.specs.Tests.{first}
 use Rattle.record.specs.Layouts.{kind_of, is_known, Counts, length_of}
+use Rattle.record.specs.Writers.{Writer, length_stated, writing}
 use Rattle.record_fill.specs.Bodies.{Fitting}
 
 -- a record that can be written out: its values fit, and there is room for it
@@ -13,6 +16,6 @@ pub record ToWrite (kind : ℕ) (c : Counts) (long : ℕ) (zs : List ℤ) (room 
   pub long_fits : (2 ≤ long) × (long < 65536)
   pub room_for : 4 + long ≤ length room
 
--- a refusal: all but number and place are 0
-abbrev pub refusal : ℕ → ℕ → Writing
-refusal number place = record { number = number; place = place; written = 0 }
+-- how many bytes are written, where nothing is refused
+unfoldable pub bytes_told : Writer → Result ℕ Fault
+bytes_told w = result_of (first writing w) (4 + length_stated w)

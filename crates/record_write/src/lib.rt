@@ -7,19 +7,10 @@ ghost use Rattle.std.proofs.lemmas.List.Edits.{sets};
 ghost use Rattle.endian.specs.Numbers.{digits};
 ghost use Rattle.record.specs.Writers.{writer, writes, room_after};
 ghost use Rattle.record_fill.specs.Bodies.{body_bytes};
-ghost use Rattle.record_write.specs.WrittenOut.{ToWrite, refusal};
+ghost use Rattle.record_write.specs.WrittenOut.{ToWrite, bytes_told};
 
 use record::Writing;
-
-fn refused(number: usize, place: usize) -> Writing
-    ensures { result ≡ refusal number place }
-{
-    Writing {
-        number: number,
-        place: place,
-        written: 0,
-    }
-}
+use refusal::{Fault, refused};
 
 // Length and kind, then the body in the part of the room after the kind.
 fn write_out(
@@ -39,24 +30,41 @@ fn write_out(
     record_fill::write_body(&mut room[6..], kind, n, m, ms, values);
 }
 
-// Writes a record: the first bytes of the room hold it afterwards.
-pub fn write_record(kind: usize, n: usize, m: usize, values: &[i64], room: &mut [u8]) -> Writing
-    ensures value { result ≡ writes (writer kind n m values.now room.old) }
-    ensures room_after { room.new ≡ room_after (writer kind n m values.now room.old) room.old }
+// Writes a record, and says how many bytes it has.
+fn write_bytes(
+    kind: usize,
+    n: usize,
+    m: usize,
+    values: &[i64],
+    room: &mut [u8],
+) -> Result<usize, Fault>
+    ensures value { result ≡ bytes_told (writer kind n m values.now room.old) }
+    ensures room_filled { room.new ≡ room_after (writer kind n m values.now room.old) room.old }
 {
-    let found = record_given::settle(kind, n, m, values);
-    if found.number != 0 {
-        return refused(found.number, found.place);
-    }
-    let ms = found.ms;
+    let ms = record_given::settle(kind, n, m, values)?;
     let long = record_fields::record_length(kind, n, m, ms);
     if room.len() < 4 + long {
         return refused(7, 4 + long);
     }
     write_out(kind, n, m, ms, long, values, room);
-    Writing {
-        number: 0,
-        place: 0,
-        written: 4 + long,
+    Ok(4 + long)
+}
+
+// Writes a record: the first bytes of the room hold it afterwards.
+pub fn write_record(kind: usize, n: usize, m: usize, values: &[i64], room: &mut [u8]) -> Writing
+    ensures value { result ≡ writes (writer kind n m values.now room.old) }
+    ensures room_after { room.new ≡ room_after (writer kind n m values.now room.old) room.old }
+{
+    match write_bytes(kind, n, m, values, room) {
+        Ok(written) => Writing {
+            number: 0,
+            place: 0,
+            written,
+        },
+        Err(Fault { number, place }) => Writing {
+            number,
+            place,
+            written: 0,
+        },
     }
 }
