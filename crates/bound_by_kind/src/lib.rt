@@ -53,14 +53,7 @@ fn settling_sound(
         return judge_bound::refused(0, fault.number, fault.place);
     }
     let mut entries = [0i64; 16];
-    match judge_settling::settling(
-        loopbytes,
-        judge::FIRST_ROW,
-        n,
-        m,
-        certificate,
-        &mut entries,
-    ) {
+    match judge_settling::settling(loopbytes, judge::FIRST_ROW, n, m, certificate, &mut entries) {
         Ok(Ranked { start, fall }) => Bounded {
             verdict: judge::accepted(Outcome::Settling { start, fall }),
             bound: steps_at(certificate, n, state),

@@ -70,14 +70,7 @@ pub fn ranking_bound(
     ensures { result ≡ bounds (bound_of loopbytes.now certificate.now state.now) }
 {
     let mut entries = [0i64; 16];
-    match judge_ranking::ranking(
-        loopbytes,
-        judge::FIRST_ROW,
-        n,
-        m,
-        certificate,
-        &mut entries,
-    ) {
+    match judge_ranking::ranking(loopbytes, judge::FIRST_ROW, n, m, certificate, &mut entries) {
         Ok(Ranked { start, fall }) => Bounded {
             verdict: judge::accepted(Outcome::Ranking { start, fall }),
             bound: bound_at(&entries, n, start, fall, state),

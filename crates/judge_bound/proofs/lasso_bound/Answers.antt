@@ -50,8 +50,7 @@ returns-in-Err c =
 pub meets_invariant-requires : goal.meets_invariant-requires
 meets_invariant-requires c =
     let a = c.args in
-    let small = state_small a.loopbytes.now a.n a.m c.requires.0 a.certificate.now a.state.now c.requires.2 in
-    (
+    let small = state_small a.loopbytes.now a.n a.m c.requires.0 a.certificate.now a.state.now c.requires.2 in (
       lasso_there a.loopbytes.now a.n a.m c.requires.0 a.certificate.now a.state.now c.requires.2 a.ms c.requires.1,
       state_long a.loopbytes.now a.n a.m c.requires.0 a.certificate.now a.state.now c.requires.2,
       λ i. omega (arith, small i),
