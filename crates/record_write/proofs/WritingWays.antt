@@ -14,6 +14,7 @@ use Rattle.refusal.specs.Faults.{result_of}
 use Rattle.refusal.specs.Tests.{Told, done, refused, first}
 use Rattle.refusal.proofs.TestLaws.{passed, failed, passes_done, done_passes, first_then, first_told}
 use Rattle.record.specs.Layouts.{Counts, length_of}
+use Rattle.record.specs.Writings.{written_of}
 use Rattle.record.specs.Writers.{Writer, kind, fields, length_stated, numbers_ahead, record_bytes, writing, answer, filled, writer, writes, room_after}
 use Rattle.record.proofs.KindLaws.{known_small}
 use Rattle.record.proofs.Lengths.{length_law, length_most}
@@ -104,21 +105,11 @@ module _ (w : Writer) (room : List ℕ) (room_is : w.room ≡ length room) where
 
 -- ---- the answer
 
-answer_done : (w : Writer) (t : Told) (written : ℕ) → Ok written ≡ result_of t (4 + length_stated w) → record { number = 0; place = 0; written = written } ≡ answer t w
+told_answer : (w : Writer) (t : Told) → written_of (result_of t (4 + length_stated w)) ≡ answer t w
 unfolding result_of answer
-answer_done w done written is = cc
-answer_done w (refused k p) written is = cc
+told_answer w done = refl
+told_answer w (refused k p) = refl
 
-answer_refused : (w : Writer) (t : Told) (f : Fault) → Err f ≡ result_of t (4 + length_stated w) → record { number = f.number; place = f.place; written = 0 } ≡ answer t w
-unfolding result_of answer
-answer_refused w done f is = cc
-answer_refused w (refused k p) f is = cc
-
-module _ (w : Writer) where
-  pub answers : (written : ℕ) → Ok written ≡ bytes_told w → record { number = 0; place = 0; written = written } ≡ writes w
-  unfolding bytes_told writes
-  answers written is = answer_done w (first writing w) written is
-
-  pub answers_refused : (f : Fault) → Err f ≡ bytes_told w → record { number = f.number; place = f.place; written = 0 } ≡ writes w
-  unfolding bytes_told writes
-  answers_refused f is = answer_refused w (first writing w) f is
+pub answers : (w : Writer) → written_of (bytes_told w) ≡ writes w
+unfolding bytes_told writes
+answers w = told_answer w (first writing w)

@@ -55,16 +55,5 @@ pub fn write_record(kind: usize, n: usize, m: usize, values: &[i64], room: &mut 
     ensures value { result ≡ writes (writer kind n m values.now room.old) }
     ensures room_after { room.new ≡ room_after (writer kind n m values.now room.old) room.old }
 {
-    match write_bytes(kind, n, m, values, room) {
-        Ok(written) => Writing {
-            number: 0,
-            place: 0,
-            written,
-        },
-        Err(Fault { number, place }) => Writing {
-            number,
-            place,
-            written: 0,
-        },
-    }
+    Writing::of(write_bytes(kind, n, m, values, room))
 }
