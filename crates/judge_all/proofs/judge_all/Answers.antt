@@ -12,15 +12,15 @@ loop-i-init c = (refl, refl, record { from_is = refl; rows_are = refl; numbers_a
 pub end_at-end-requires : goal.end_at-end-requires
 end_at-end-requires c = (asked as_it_is _ _ _ _ _ c.enter-said.ensures _ _ _ _ c.loop-i.invariant.2 c.loop-i-test.true).starts_within
 
-pub judge_part-requires-clause-loopbytes_value : goal.judge_part-requires-clause-loopbytes_value
-judge_part-requires-clause-loopbytes_value c = (asked as_it_is _ _ _ _ _ c.enter-said.ensures _ _ _ _ c.loop-i.invariant.2 c.loop-i-test.true).loop_sound
+pub judge_part-requires-clause-loop_sound : goal.judge_part-requires-clause-loop_sound
+judge_part-requires-clause-loop_sound c = (asked as_it_is _ _ _ _ _ c.enter-said.ensures _ _ _ _ c.loop-i.invariant.2 c.loop-i-test.true).loop_sound
 
-pub judge_part-requires-clause-from_le_end : goal.judge_part-requires-clause-from_le_end
-judge_part-requires-clause-from_le_end c =
+pub judge_part-requires-clause-in_order : goal.judge_part-requires-clause-in_order
+judge_part-requires-clause-in_order c =
     ends_within as_it_is _ _ _ _ _ c.enter-said.ensures _ _ _ _ c.loop-i.invariant.2 c.loop-i-test.true _ c.end_at-end.ensures
 
-pub judge_part-requires-clause-loopbytes_in_bounds : goal.judge_part-requires-clause-loopbytes_in_bounds
-judge_part-requires-clause-loopbytes_in_bounds c = (asked as_it_is _ _ _ _ _ c.enter-said.ensures _ _ _ _ c.loop-i.invariant.2 c.loop-i-test.true).stretch_there
+pub judge_part-requires-clause-room : goal.judge_part-requires-clause-room
+judge_part-requires-clause-room c = (asked as_it_is _ _ _ _ _ c.enter-said.ensures _ _ _ _ c.loop-i.invariant.2 c.loop-i-test.true).stretch_there
 
 pub offset_bounds-verdicts-i : goal.offset_bounds-verdicts-i
 offset_bounds-verdicts-i c =

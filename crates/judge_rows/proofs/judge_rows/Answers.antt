@@ -12,15 +12,15 @@ loop-i-init c = (refl, refl, record { from_is = refl; rows_are = refl; numbers_a
 pub end_at-end-requires : goal.end_at-end-requires
 end_at-end-requires c = (asked verdict_row _ _ _ _ _ c.enter-said.ensures _ _ _ _ c.loop-i.invariant.2 c.loop-i-test.true).starts_within
 
-pub flat_part-requires-clause-loopbytes_value : goal.flat_part-requires-clause-loopbytes_value
-flat_part-requires-clause-loopbytes_value c = (asked verdict_row _ _ _ _ _ c.enter-said.ensures _ _ _ _ c.loop-i.invariant.2 c.loop-i-test.true).loop_sound
+pub flat_part-requires-clause-loop_sound : goal.flat_part-requires-clause-loop_sound
+flat_part-requires-clause-loop_sound c = (asked verdict_row _ _ _ _ _ c.enter-said.ensures _ _ _ _ c.loop-i.invariant.2 c.loop-i-test.true).loop_sound
 
-pub flat_part-requires-clause-from_le_end : goal.flat_part-requires-clause-from_le_end
-flat_part-requires-clause-from_le_end c =
+pub flat_part-requires-clause-in_order : goal.flat_part-requires-clause-in_order
+flat_part-requires-clause-in_order c =
     ends_within verdict_row _ _ _ _ _ c.enter-said.ensures _ _ _ _ c.loop-i.invariant.2 c.loop-i-test.true _ c.end_at-end.ensures
 
-pub flat_part-requires-clause-loopbytes_in_bounds : goal.flat_part-requires-clause-loopbytes_in_bounds
-flat_part-requires-clause-loopbytes_in_bounds c = (asked verdict_row _ _ _ _ _ c.enter-said.ensures _ _ _ _ c.loop-i.invariant.2 c.loop-i-test.true).stretch_there
+pub flat_part-requires-clause-room : goal.flat_part-requires-clause-room
+flat_part-requires-clause-room c = (asked verdict_row _ _ _ _ _ c.enter-said.ensures _ _ _ _ c.loop-i.invariant.2 c.loop-i-test.true).stretch_there
 
 pub offset_bounds-rows-i : goal.offset_bounds-rows-i
 offset_bounds-rows-i c =
