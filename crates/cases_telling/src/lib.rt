@@ -11,7 +11,7 @@ use std::{fmt, io};
 use verdict::{Bounded, Grade, Outcome, Verdict};
 use verdict_batch::Batched;
 
-// Where the lines go, where a failure is told, and whether one was.
+// Where the lines go, where a failure is told, and whether one was: a flag alone, as nothing goes with it.
 #[derive(Drop)]
 pub struct Printer<W, E> {
     output: W,

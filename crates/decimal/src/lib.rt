@@ -11,6 +11,7 @@ ghost use Rattle.decimal.specs.Rooms.{Puts};
 fn digit_count(x: u64) -> usize
     ensures { result ≡ length (decimal x) }
 {
+    // what is counted are digits, so no range is walked: a `while`
     let mut count = 1;
     let mut rest = x;
     while rest >= 10 {
@@ -34,6 +35,7 @@ pub fn put_u64(room: &mut [u8], place: usize, x: u64) -> usize
     ensures { Puts room.old place (decimal x) result room.new }
 {
     let end = place + digit_count(x);
+    // from the last digit on, as long as there are any
     let mut at = end;
     let mut rest = x;
     while rest >= 10 {

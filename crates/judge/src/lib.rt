@@ -26,7 +26,7 @@ pub fn accepted(outcome: Outcome) -> Verdict
         number: 0,
         place: 0,
         about: 0,
-        outcome: outcome,
+        outcome,
     }
 }
 
@@ -35,9 +35,9 @@ pub fn refused(about: usize, number: usize, place: usize) -> Verdict
     ensures { result ≡ refusal_of about number place }
 {
     Verdict {
-        number: number,
-        place: place,
-        about: about,
+        number,
+        place,
+        about,
         outcome: Outcome::Nothing,
     }
 }

@@ -160,10 +160,7 @@ fn take_rows(
     let under_y = endian::u16_at(multipliers, at_y);
     let under_z = endian::u16_at(multipliers, at_z);
     if under_y + under_z == 0 {
-        return Taken {
-            rows: 1,
-            beside: beside,
-        };
+        return Taken { rows: 1, beside };
     }
     if four_weigh(multipliers, at_y, at_z, count - i) {
         let four_y = four_at(multipliers, at_y);
@@ -204,6 +201,7 @@ pub fn add_rows(
         return judge_sums::add_rows(ys, zs, rows, start, n, multipliers, y, z, count);
     }
     let mut beside = Besides::new();
+    // goes on by one row or by four, so it is no `for`
     let mut i = 0;
     while i < count {
         let taken = take_rows(ys, zs, beside, rows, start, n, multipliers, y, z, i, count);

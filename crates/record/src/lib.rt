@@ -6,7 +6,7 @@ ghost use Rattle.record.specs.Writings.{written_of};
 
 use refusal::Fault;
 
-// The kinds of certificate that a call wants, 2 to 4; any other kind gives 4.
+// The kinds of certificate that a call wants, 2 to 4; any other kind gives 4. A set of three, each in or out: flags, as the paper has them.
 #[derive(Clone, Copy)]
 pub struct Wanted {
     pub ranking: bool,
@@ -14,7 +14,8 @@ pub struct Wanted {
     pub lasso: bool,
 }
 
-// A reading's answer. On a refusal all but number and place are 0.
+// A reading's answer. On a refusal all but number and place are 0. It is no Result, since the paper names these fields, and `refused_reading`
+// speaks of them on a refusal too.
 #[derive(Clone, Copy)]
 pub struct Reading {
     pub number: usize,
@@ -25,7 +26,7 @@ pub struct Reading {
     pub count: usize,
 }
 
-// A writing's answer. On a refusal all but number and place are 0.
+// A writing's answer. On a refusal all but number and place are 0. It is no Result, for the same reasons: the paper's fields, and `refused_writing`.
 #[derive(Clone, Copy)]
 pub struct Writing {
     pub number: usize,

@@ -13,7 +13,7 @@ ghost use Rattle.record_check.specs.Checks.{checks, certificate_check, Framed, O
 use record::Wanted;
 use refusal::{Fault, refused};
 
-// What a check says of a sound record: its kind and its counts.
+// What a check says of a sound record: its kind, by its number as it stands in the record, and its counts.
 #[derive(Clone, Copy, Debug, PartialEq, Eq)]
 pub struct Checked {
     pub kind: usize,

@@ -1,4 +1,5 @@
 // What the checks, the readers and the writer share: the forms of numbers; runs of equal fields; and how long a record and its list are.
+// A kind is its number, here and above: so it stands in a record, so the paper decides on it, and any number may come from outside.
 #![tactic(auto)]
 
 ghost use Rattle.std.specs.Prelude.{◌≤◌, ◌≡◌};

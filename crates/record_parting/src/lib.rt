@@ -53,7 +53,8 @@ pub fn end_at(bytes: &[u8], from: usize) -> usize
 }
 
 // How many records in front take `size` bytes each. Where the next one starts is known before the length of the last is read, so that reading it does
-// not wait (`docs/PERFORMANCE.md`, "A ranking's totals"). No whole record takes fewer than 6 bytes.
+// not wait (`docs/PERFORMANCE.md`, "A ranking's totals"). No whole record takes fewer than 6 bytes. An
+// iterator over the records would read each length before it knows where the next one starts.
 fn alike(bytes: &[u8], size: usize) -> usize
     ensures { (result ≤ result * size) × (result * size ≤ length bytes.now)
         × (result + length (records (drop (result * size) bytes.now)) ≡ length (records bytes.now)) }

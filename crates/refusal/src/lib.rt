@@ -3,7 +3,7 @@
 
 ghost use Rattle.std.specs.Prelude.{◌≡◌, Err};
 
-// A refusal: its number and its place.
+// A refusal: its number and its place. It is told by its number, as in the paper's list, which callers and the definition `Told` go by: no enum.
 #[derive(Clone, Copy, Debug, PartialEq, Eq)]
 pub struct Fault {
     pub number: usize,

@@ -18,7 +18,7 @@ use verdict::Bounded;
 use verdict_batch::Batched;
 use verdict_flat::FlatVerdict;
 
-// ---- answers as C gets them
+// ---- answers as C gets them: structs of numbers, since no enum crosses; a kind comes as its number
 
 // The answer of a reading.
 #[repr(C)]

@@ -69,6 +69,7 @@ pub fn next_part(input: &[u8], last: Part, room: &mut [u8]) -> Part
     let mut written = 0;
     let mut place = last.place;
     let mut count = last.count;
+    // a `for` over `Records`, with a break, was tried, and its proof did not close
     while place < input.len() {
         if room.len() - written < 306 {
             break;

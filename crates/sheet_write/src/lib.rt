@@ -34,6 +34,6 @@ pub fn sheet(input: &[u8], text: &mut [u8]) -> Writing
     Writing {
         number: 0,
         place: 0,
-        written: written,
+        written,
     }
 }

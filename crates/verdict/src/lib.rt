@@ -19,7 +19,8 @@ pub enum Outcome {
     Settling { start: i64, fall: i64 },
 }
 
-// The refusal number, its place, the record that it speaks of (1 loop, 2 certificate, 0 neither), and the outcome.
+// The refusal number, its place, the record that it speaks of (1 loop, 2 certificate, 0 neither), and the outcome. It is no Result, since the paper
+// names these fields, on a refusal too, and what is proved of verdicts (`one_answer`) speaks of them.
 #[derive(Clone, Copy)]
 pub struct Verdict {
     pub number: usize,
@@ -28,7 +29,7 @@ pub struct Verdict {
     pub outcome: Outcome,
 }
 
-// A verdict with the bound on steps beside it; a refusal's bound is 0.
+// A verdict with the bound on steps beside it; a refusal's bound is 0. The paper names both, so it is no Result.
 #[derive(Clone, Copy)]
 pub struct Bounded {
     pub verdict: Verdict,

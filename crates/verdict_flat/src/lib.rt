@@ -30,10 +30,10 @@ fn flat_told(v: Verdict, outcome: usize, start: i64, fall: i64, grade: usize) ->
         number: v.number,
         place: v.place,
         record: v.about,
-        outcome: outcome,
-        start: start,
-        fall: fall,
-        grade: grade,
+        outcome,
+        start,
+        fall,
+        grade,
     }
 }
 
