@@ -8,6 +8,7 @@ use lib.IntN.{ℤ, pos}
 use lib.ListN.{length}
 use Rattle.endian.specs.Numbers.{little_at}
 use Rattle.judge_sums.specs.Places.{right_at, multiplier_at, row_place, now_term, next_term, right_term, lift_term, RowsIn, Visited, ColumnOf, Sided, BesideOf, most_entry, most_right}
+use Rattle.judge_sums.specs.Running.{CanGrow}
 use Rattle.judge_sums.proofs.RunningLaws.{sum_none, sum_more, adds_nothing}
 
 pub row_inside : (bytes : List ℕ) (start n count i : ℕ) → RowsIn bytes start n count → i < count → row_place start n (i + 1) ≤ length bytes
@@ -56,3 +57,7 @@ module _ (multipliers : List ℕ) (place : ℕ) (rows : List ℕ) (start n : ℕ
         lift_sum = sum_more most_entry (lift_term multipliers place) i h.lift_sum (rw read at more.lift_adds);
         right_sum = sum_more most_right (right_term multipliers place rows start n) i h.right_sum (rw (read, here) at more.right_adds);
       }
+
+  -- under 16,384 rows both have room to grow
+  pub beside_grows : (count : ℕ) {lift right : ℤ} → count < 16384 → BesideOf multipliers place rows start n count lift right → CanGrow lift × CanGrow right
+  beside_grows count few h = (omega (arith, h.lift_sum.small), omega (arith, h.right_sum.small))
