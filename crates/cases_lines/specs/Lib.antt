@@ -1,2 +1,3 @@
--- the words of a line
+-- the words of a line, and what they tell
 pub mod Words
+pub mod Sizes

@@ -2,7 +2,8 @@
 // numbers are decimal, and one blank parts two words.
 #![tactic(auto)]
 
-ghost use Rattle.std.specs.Prelude.{◌≡◌, ◌<◌, ◌≤◌, length};
+ghost use Rattle.std.specs.Prelude.{◌≡◌, ◌<◌, ◌≤◌, length, min, take};
+ghost use Rattle.cases_lines.specs.Sizes.{digit_told, size_told};
 ghost use Rattle.cases_lines.specs.Words.{next_word, behind};
 
 // What is still to be read of a line.
@@ -12,8 +13,10 @@ pub struct Line<'a> {
 }
 
 // What a digit, decimal or hexadecimal, stands for.
+#[tactic(auto, unfolding(crate::specs::Sizes::digit_told))]
 fn digit(byte: u8) -> u8
-    ensures { result < 16 }
+    ensures told { result ≡ digit_told byte }
+    ensures small { result < 16 }
 {
     if byte <= b'9' {
         byte % 16
@@ -23,20 +26,26 @@ fn digit(byte: u8) -> u8
 }
 
 // The number that the digits of a word make, without its sign. It stays below 10 to the 18th.
+#[tactic(auto, unfolding(crate::specs::Sizes::size_told, crate::specs::Sizes::with_byte))]
 fn size(word: &[u8]) -> u64
-    ensures { result < 1000000000000000000 }
+    ensures told { result ≡ size_told word.now }
+    ensures small { result < 1000000000000000000 }
 {
-    let mut size = 0;
-    for byte in word {
-        if *byte != b'-' {
-            size = size % 100000000000000000 * 10 + u64::from(digit(*byte));
+    let size = word.iter().fold(0, |size: u64, byte| {
+        if *byte == b'-' {
+            size
+        } else {
+            size % 100000000000000000 * 10 + u64::from(digit(*byte))
         }
-    }
+    });
     size % 1000000000000000000
 }
 
 impl<'a> Line<'a> {
-    pub fn new(line: &'a [u8]) -> Line<'a> {
+    // All of it.
+    pub fn new(line: &'a [u8]) -> Line<'a>
+        ensures { result.rest.now ≡ line.now }
+    {
         Line { rest: line }
     }
 
@@ -59,7 +68,10 @@ impl<'a> Line<'a> {
     }
 
     // A count, or 0 at the end of the line.
-    pub fn count(&mut self) -> usize {
+    pub fn count(&mut self) -> usize
+        ensures value { result ≡ size_told (next_word self.old.rest.now) }
+        ensures behind { self.new.rest.now ≡ behind self.old.rest.now }
+    {
         size(self.word()) as usize
     }
 
@@ -98,7 +110,10 @@ impl<'a> Line<'a> {
     }
 
     // As much of a list as the next word counts, or all of it.
-    pub fn front<'b, T>(&mut self, list: &'b mut [T]) -> &'b mut [T] {
+    pub fn front<'b, T>(&mut self, list: &'b mut [T]) -> &'b mut [T]
+        ensures lent { result.now ≡ take (min (size_told (next_word self.old.rest.now)) (length list.old)) list.old }
+        ensures behind { self.new.rest.now ≡ behind self.old.rest.now }
+    {
         let size = self.count().min(list.len());
         &mut list[..size]
     }
