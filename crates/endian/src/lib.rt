@@ -3,6 +3,10 @@
 // that no caller meets a byte's bits. Bytes are converted by std, and i16_at and i32_at compile to
 // one load that extends the sign. A lifted number is a remainder by a number written out, which
 // shows that it is never below 0.
+//
+// There is one function for each form and not one for all: std's conversions are methods of each type, so the impls of a trait would hold the same
+// lines, and what is never below 0 is given as a usize, with which callers reckon places. For runs of one form there is such a trait above
+// these, `record_fields::Number`.
 #![tactic(auto)]
 
 ghost use Rattle.std.specs.Prelude.{◌+◌, ◌*◌, ◌%◌, ◌≤◌, ◌<◌, ◌≡◌, ◌++◌, pos, nat_abs, ◌+ℤ◌, ◌-ℤ◌, length, take, drop};

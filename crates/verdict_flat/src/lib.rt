@@ -22,7 +22,7 @@ pub struct FlatVerdict {
     pub grade: usize,
 }
 
-// A verdict whose outcome is given in numbers.
+// A verdict whose outcome is given in numbers: what the arms of the conversion below share, and no conversion itself.
 fn flat_told(v: Verdict, outcome: usize, start: i64, fall: i64, grade: usize) -> FlatVerdict
     ensures { result ≡ told v (record { kind = outcome; start = start; fall = fall; grade = grade }) }
 {
@@ -59,7 +59,7 @@ impl From<Verdict> for FlatVerdict {
 
 // ---- back again
 
-// The grade that a number tells.
+// The grade that a number tells. It is no `From<usize>`, since neither type is of this crate.
 fn grade_of(grade: usize) -> Grade
     ensures { result ≡ grade_back grade }
 {
@@ -69,7 +69,7 @@ fn grade_of(grade: usize) -> Grade
     }
 }
 
-// The outcome that some numbers tell.
+// The outcome that some numbers tell. It is no `From`, since these four are fields of a verdict and no type of their own.
 fn outcome_of(outcome: usize, start: i64, fall: i64, grade: usize) -> Outcome
     ensures { result ≡ outcome_back (record { kind = outcome; start = start; fall = fall; grade = grade }) }
 {
