@@ -6,7 +6,8 @@ use native.Mathlib.Nat.{mul-le-mul}
 use native.Mathlib.Omega.{arith}
 use lib.ListN.{replicate}
 use Rattle.record.specs.Fields.{width, Field, widths}
-use Rattle.record.specs.Layouts.{Kind, loop, ranking, exclusion, lasso, other, is_loop, is_known, Counts, variable_count, row_count, entry, right_side, multiplier, scale, direction, row, rows_of, counts, layout, length_of, ahead, listed}
+use Rattle.record.specs.declared.Counts.{Counts}
+use Rattle.record.specs.Layouts.{Kind, loop, ranking, exclusion, lasso, other, is_loop, is_known, variable_count, row_count, entry, right_side, multiplier, scale, direction, row, rows_of, counts, layout, length_of, ahead, listed}
 use Rattle.record.proofs.FieldLaws.{widths_append}
 
 pub widths_replicate : (n : ℕ) (f : Field) → widths (replicate n f) ≡ n * width f.form

@@ -1,6 +1,7 @@
 -- 01, "Records on file": "Kind is one of 1, 2, 3 or 4, each with its own body". The layouts of the four bodies as data, and 01's
 -- formula for the length L of each. `kind_of` is the one decision on the kind number.
 use Rattle.std.specs.Prelude.{ℕ, zero, suc, ◌+◌, ◌*◌, Bool, true, false, cond, List, [], ◌∷◌, ◌++◌, eqb, replicate}
+use Rattle.record.specs.declared.Counts.{Counts}
 use Rattle.record.specs.Fields.{u16, i16, i32, holds, Field}
 use Rattle.record.specs.Ranges.{◌to◌, either_way, variables, rows, entries, right_sides, multipliers, scales, directions}
 
@@ -43,12 +44,6 @@ has_rank ranking = true
 has_rank exclusion = false
 has_rank lasso = true
 has_rank other = false
-
--- how many variables, loop rows and stem rows a record has or goes with
-pub record Counts : Type 0 where
-  pub n : ℕ
-  pub m : ℕ
-  pub ms : ℕ
 
 -- ---- the fields
 

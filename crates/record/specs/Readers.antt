@@ -5,7 +5,8 @@ use Rattle.endian.specs.Numbers.{little_at}
 use Rattle.refusal.specs.Tests.{Told, done, refused, Test, ◌at◌unless◌, first}
 use Rattle.record.specs.declared.Reading.{Reading}
 use Rattle.record.specs.Fields.{Field, widths, values, in_range, before_fault}
-use Rattle.record.specs.Layouts.{Kind, kind_of, is_loop, is_lasso, Counts, counts, length_of, ahead, listed}
+use Rattle.record.specs.declared.Counts.{Counts}
+use Rattle.record.specs.Layouts.{Kind, kind_of, is_loop, is_lasso, counts, length_of, ahead, listed}
 use Rattle.record.specs.Ranges.{variables, rows, within}
 use Rattle.record.specs.Wants.{loops_read, certificates_read}
 

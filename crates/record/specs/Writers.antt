@@ -6,7 +6,8 @@ use Rattle.endian.specs.Numbers.{digits}
 use Rattle.refusal.specs.Tests.{Told, done, refused, Test, ◌at◌unless◌, first}
 use Rattle.record.specs.declared.Writing.{Writing}
 use Rattle.record.specs.Fields.{Field, widths, bytes_of, in_range, before_fault}
-use Rattle.record.specs.Layouts.{Kind, kind_of, is_loop, is_lasso, Counts, counts, length_of, ahead, listed}
+use Rattle.record.specs.declared.Counts.{Counts}
+use Rattle.record.specs.Layouts.{Kind, kind_of, is_loop, is_lasso, counts, length_of, ahead, listed}
 use Rattle.record.specs.Ranges.{variables, rows, within}
 use Rattle.record.specs.Wants.{kinds_written}
 

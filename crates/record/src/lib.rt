@@ -14,6 +14,14 @@ pub struct Wanted {
     pub lasso: bool,
 }
 
+// How many variables, loop rows and stem rows a record has or goes with. Only a lasso has stem rows.
+#[derive(Clone, Copy, Debug, PartialEq, Eq)]
+pub struct Counts {
+    pub n: usize,
+    pub m: usize,
+    pub ms: usize,
+}
+
 // A reading's answer. On a refusal all but number and place are 0. It is no Result, since the paper names these fields, and `refused_reading`
 // speaks of them on a refusal too.
 #[derive(Clone, Copy)]

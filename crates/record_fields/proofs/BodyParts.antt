@@ -7,7 +7,8 @@ use native.Mathlib.Nat.{zero-add, suc-add}
 use native.Mathlib.Omega.{arith}
 use lib.ListN.{length, replicate, replicate-append-replicate, length-append, length-replicate}
 use Rattle.record.specs.Fields.{width, Field, widths}
-use Rattle.record.specs.Layouts.{Kind, loop, ranking, exclusion, lasso, other, Counts, is_loop, entry, right_side, multiplier, scale, direction, row, rows_of, counts, layout, listed}
+use Rattle.record.specs.declared.Counts.{Counts}
+use Rattle.record.specs.Layouts.{Kind, loop, ranking, exclusion, lasso, other, is_loop, entry, right_side, multiplier, scale, direction, row, rows_of, counts, layout, listed}
 use Rattle.record.proofs.FieldLaws.{widths_append}
 use Rattle.record.proofs.Lengths.{widths_replicate}
 use Rattle.record_fields.specs.Runs.{linear, weights, value_count}

@@ -7,5 +7,6 @@ pub mod Forms
 pub mod Readings
 pub mod ListFaults
 pub mod ToldFaults
-pub mod ToldParts
+pub mod FieldRuns
 pub mod Stores
+pub mod InParts

@@ -3,7 +3,8 @@
 use Rattle.std.specs.Prelude.{ℕ, zero, suc, ◌+◌, ◌*◌, Bool, true, cond, ◌&&◌, List, [], ◌∷◌, ◌++◌, ltb, ℤ, take, drop, replicate}
 use Rattle.refusal.specs.Tests.{Told, done, refused}
 use Rattle.record.specs.Fields.{Form, width, number, stored, holds, Field, widths, values, before_fault}
-use Rattle.record.specs.Layouts.{Kind, loop, ranking, exclusion, lasso, other, Counts, entry, right_side, multiplier, scale}
+use Rattle.record.specs.declared.Counts.{Counts}
+use Rattle.record.specs.Layouts.{Kind, loop, ranking, exclusion, lasso, other, entry, right_side, multiplier, scale}
 use Rattle.record.specs.Ranges.{within}
 
 -- the number that a field has at a place

@@ -1,6 +1,6 @@
 // What the checks, the readers and the writer share: the forms of numbers; runs of equal fields; and how long a record and its list are.
 // A kind is its number, here and above: so it stands in a record, so the paper decides on it, and any number may come from outside.
-#![tactic(auto)]
+#![tactic(auto, unfolding(record::specs::Layouts::kind_of, record::specs::Layouts::length_of, crate::specs::Runs::value_count))]
 
 ghost use Rattle.std.specs.Prelude.{◌≤◌, ◌≡◌};
 ghost use Rattle.record.specs.Layouts.{kind_of, length_of};
@@ -9,12 +9,14 @@ ghost use Rattle.record_fields.specs.Runs.{value_count};
 mod number;
 
 pub use number::Number;
+use record::Counts;
 
 // How many values the list of a record has.
-pub fn value_count(kind: usize, n: usize, m: usize, ms: usize) -> usize
-    requires { (n ≤ 16) × (m ≤ 64) × (ms ≤ 64) }
-    ensures { result ≡ value_count (kind_of kind) (record { n = n; m = m; ms = ms }) }
+pub fn value_count(kind: usize, counts: Counts) -> usize
+    requires { (counts.n ≤ 16) × (counts.m ≤ 64) × (counts.ms ≤ 64) }
+    ensures { result ≡ value_count (kind_of kind) counts }
 {
+    let Counts { n, m, ms } = counts;
     match kind {
         1 => m * (2 * n + 1),
         2 => 2 * m,
@@ -25,10 +27,11 @@ pub fn value_count(kind: usize, n: usize, m: usize, ms: usize) -> usize
 }
 
 // The bytes that follow a record's length.
-pub fn record_length(kind: usize, n: usize, m: usize, ms: usize) -> usize
-    requires { (n ≤ 16) × (m ≤ 64) × (ms ≤ 64) }
-    ensures { result ≡ length_of (kind_of kind) (record { n = n; m = m; ms = ms }) }
+pub fn record_length(kind: usize, counts: Counts) -> usize
+    requires { (counts.n ≤ 16) × (counts.m ≤ 64) × (counts.ms ≤ 64) }
+    ensures { result ≡ length_of (kind_of kind) counts }
 {
+    let Counts { n, m, ms } = counts;
     match kind {
         1 => 6 + m * (4 * n + 4),
         2 => 2 + 4 * m,

@@ -8,10 +8,11 @@ use lib.IntN.{ℤ, pos}
 use lib.ListN.{length, replicate, length-append}
 use Rattle.endian.specs.Numbers.{digits}
 use Rattle.record.specs.Fields.{u16, stored, widths, bytes_of, in_range}
-use Rattle.record.specs.Layouts.{Kind, loop, ranking, exclusion, lasso, other, kind_of, is_loop, is_known, Counts, variable_count, row_count, multiplier, scale, direction, rows_of, counts, layout, length_of, ahead, listed}
+use Rattle.record.specs.declared.Counts.{Counts}
+use Rattle.record.specs.Layouts.{Kind, loop, ranking, exclusion, lasso, other, kind_of, is_loop, is_known, variable_count, row_count, multiplier, scale, direction, rows_of, counts, layout, length_of, ahead, listed}
 use Rattle.record.proofs.Lengths.{length_law}
-use Rattle.record_fields.specs.Runs.{linear, weights, stores, all_held}
-use Rattle.record_fields.proofs.BodyParts.{count_law, ranking_is, exclusion_is, lasso_is}
+use Rattle.record_fields.specs.Runs.{stores, all_held}
+use Rattle.record_fields.proofs.BodyParts.{count_law, ranking_is, exclusion_is}
 use Rattle.record_fields.proofs.Stores.{bytes_run, held_run, length_bytes}
 use Rattle.record_fill.specs.Bodies.{body_bytes, Fitting}
 
@@ -28,9 +29,9 @@ module _ (kind : ℕ) (c : Counts) (zs : List ℤ) where
   unfolding body_bytes kind_of listed ahead counts is_loop bytes_of
   bytes_3 is = rw is (ap (λ fs. bytes_of fs zs) (sym (exclusion_is c)))
 
-  pub bytes_4 : kind ≡ 4 → bytes_of ((row_count ∷ []) ++ (rows_of c.n c.ms ++ (linear c.n ++ (weights c.ms ++ weights (3 * c.m + 3))))) zs ≡ body_bytes kind c zs
-  unfolding body_bytes kind_of listed ahead counts is_loop bytes_of
-  bytes_4 is = rw is (ap (λ fs. bytes_of (row_count ∷ fs) zs) (sym (lasso_is c)))
+  pub bytes_4 : kind ≡ 4 → bytes_of (listed lasso c) zs ≡ body_bytes kind c zs
+  unfolding body_bytes kind_of ahead is_loop bytes_of
+  bytes_4 is = rw is
 
   pub bytes_other : kind_of kind ≡ other → [] ≡ body_bytes kind c zs
   unfolding body_bytes listed ahead counts layout is_loop bytes_of
@@ -49,10 +50,6 @@ module _ (kind : ℕ) (c : Counts) (zs : List ℤ) (fit : in_range (listed (kind
   pub fit_3 : kind ≡ 3 → in_range ((scale ∷ []) ++ replicate (3 * c.n) direction) zs ≡ true
   unfolding kind_of listed counts is_loop
   fit_3 is = rw (is, exclusion_is c) at fit
-
-  pub fit_4 : kind ≡ 4 → in_range ((row_count ∷ []) ++ (rows_of c.n c.ms ++ (linear c.n ++ (weights c.ms ++ weights (3 * c.m + 3))))) zs ≡ true
-  unfolding kind_of listed counts is_loop
-  fit_4 is = rw (is, lasso_is c) at fit
 
 -- the numbers ahead of the list are as many as their fields
 ahead_long : (k : Kind) (n m : ℕ) → length (ahead k) ≡ length (cond (is_loop k) (pos n ∷ pos m ∷ []) [])

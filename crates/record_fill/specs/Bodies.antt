@@ -1,7 +1,8 @@
 -- The bytes of a body, from a kind number, counts and a list of values; and when they can be written.
 use Rattle.std.specs.Prelude.{ℕ, ◌≤◌, ◌≡◌, true, cond, List, [], ◌∷◌, ◌++◌, ℤ, pos, length}
 use Rattle.record.specs.Fields.{bytes_of, in_range}
-use Rattle.record.specs.Layouts.{kind_of, is_loop, Counts, ahead, listed}
+use Rattle.record.specs.declared.Counts.{Counts}
+use Rattle.record.specs.Layouts.{kind_of, is_loop, ahead, listed}
 use Rattle.record_fields.specs.Runs.{value_count}
 
 unfoldable pub body_bytes : ℕ → Counts → List ℤ → List ℕ

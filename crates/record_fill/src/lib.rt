@@ -1,14 +1,15 @@
 // Filling a body: runs of values of one form, the parts of a body, and the body of each kind. Whoever calls has tested the values, and has room for them.
-#![tactic(auto, unfolding(record::specs::Fields::width))]
+#![tactic(auto, unfolding(record::specs::Fields::width, record::specs::Layouts::kind_of, record::specs::Layouts::length_of, record_fields::specs::Runs::value_count))]
 
 ghost use Rattle.std.specs.Prelude.{◌+◌, ◌*◌, ◌≤◌, ◌≡◌, true, [], ◌∷◌, ◌++◌, length, drop, replicate};
 ghost use Rattle.std.proofs.lemmas.List.Edits.{sets};
 ghost use Rattle.endian.specs.Numbers.{digits};
 ghost use Rattle.record.specs.Fields.{bytes_of, in_range};
-ghost use Rattle.record.specs.Layouts.{kind_of, row_count, scale, direction, rows_of, length_of};
-ghost use Rattle.record_fields.specs.Runs.{linear, weights, stores, all_held};
+ghost use Rattle.record.specs.Layouts.{lasso, kind_of, scale, direction, rows_of, length_of, listed};
+ghost use Rattle.record_fields.specs.Runs.{linear, value_count, stores, all_held};
 ghost use Rattle.record_fill.specs.Bodies.{body_bytes, Fitting};
 
+use record::Counts;
 use record_fields::Number;
 
 // The values of a run of one form, from an index of the list on, into the body from a place on.
@@ -60,12 +61,13 @@ fn write_exclusion(body: &mut [u8], n: usize, values: &[i64])
     write_run::<i32>(body, 2, 3 * n, values, 1);
 }
 
-fn write_lasso(body: &mut [u8], n: usize, m: usize, ms: usize, values: &[i64])
-    requires there { 1 + (ms * (2 * n + 1) + (n + 1 + (ms + 3 * m + 5))) ≤ length values.now }
-    requires room { 2 + (ms * (4 * n + 4) + (2 * n + 4 + (2 * ms + 6 * m + 10))) ≤ length body.old }
-    requires fit { in_range ((row_count ∷ []) ++ (rows_of n ms ++ (linear n ++ (weights ms ++ weights (3 * m + 3))))) values.now ≡ true }
-    ensures { body.new ≡ sets body.old 0 (bytes_of ((row_count ∷ []) ++ (rows_of n ms ++ (linear n ++ (weights ms ++ weights (3 * m + 3))))) values.now) }
+fn write_lasso(body: &mut [u8], counts: Counts, values: &[i64])
+    requires there { value_count lasso counts ≤ length values.now }
+    requires room { length_of lasso counts ≤ 2 + length body.old }
+    requires fit { in_range (listed lasso counts) values.now ≡ true }
+    ensures { body.new ≡ sets body.old 0 (bytes_of (listed lasso counts) values.now) }
 {
+    let Counts { n, m, ms } = counts;
     let place = 2 + ms * (4 * n + 4);
     let index = 1 + ms * (2 * n + 1);
     write_run::<u16>(body, 0, 1, values, 0);
@@ -96,16 +98,16 @@ fn write_loop(body: &mut [u8], n: usize, m: usize, values: &[i64])
 // ---- a whole body
 
 // The body of a record of a kind: the kind number decides its layout.
-pub fn write_body(body: &mut [u8], kind: usize, n: usize, m: usize, ms: usize, values: &[i64])
-    requires fitting { Fitting kind (record { n = n; m = m; ms = ms }) values.now }
-    requires ms_bound { length_of (kind_of kind) (record { n = n; m = m; ms = ms }) ≤ 2 + length body.old }
-    ensures { body.new ≡ sets body.old 0 (body_bytes kind (record { n = n; m = m; ms = ms }) values.now) }
+pub fn write_body(body: &mut [u8], kind: usize, counts: Counts, values: &[i64])
+    requires fitting { Fitting kind counts values.now }
+    requires ms_bound { length_of (kind_of kind) counts ≤ 2 + length body.old }
+    ensures { body.new ≡ sets body.old 0 (body_bytes kind counts values.now) }
 {
     match kind {
-        1 => write_loop(body, n, m, values),
-        2 => write_run::<u16>(body, 0, 2 * m, values, 0),
-        3 => write_exclusion(body, n, values),
-        4 => write_lasso(body, n, m, ms, values),
+        1 => write_loop(body, counts.n, counts.m, values),
+        2 => write_run::<u16>(body, 0, 2 * counts.m, values, 0),
+        3 => write_exclusion(body, counts.n, values),
+        4 => write_lasso(body, counts, values),
         _ => (),
     }
 }

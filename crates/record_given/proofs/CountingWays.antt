@@ -11,6 +11,7 @@ use Rattle.refusal.specs.declared.Fault.{Fault}
 use Rattle.refusal.specs.Tests.{done, refused, first}
 use Rattle.refusal.proofs.FaultLaws.{gives, refuses}
 use Rattle.refusal.proofs.TestLaws.{passed, failed, passes_done}
+use Rattle.record.specs.declared.Counts.{Counts}
 use Rattle.record.specs.Fields.{width}
 use Rattle.record.specs.Layouts.{kind_of, is_loop, is_lasso, variable_count, row_count, counts}
 use Rattle.record.specs.Ranges.{variables, rows, within}
@@ -19,8 +20,8 @@ use Rattle.record.specs.Wants.{kinds_written}
 use Rattle.record_fields.proofs.FirstFaults.{before_next, before_here}
 use Rattle.record_given.specs.Settled.{given, counting, counted}
 
--- a refusal of what gives a number
-abbrev pub refusal : ℕ → ℕ → Result ℕ Fault
+-- a refusal of what gives anything
+abbrev pub refusal : {A : Type 0} → ℕ → ℕ → Result A Fault
 refusal number place = Err (record { number = number; place = place })
 
 module _ (w : Writer) where
@@ -28,7 +29,7 @@ module _ (w : Writer) where
   unfolding counted given
   tells h = refuses _ h
 
-  gave : {ms : ℕ} → first counting w ≡ done → ms ≡ (counts_given w).ms → Ok ms ≡ counted w
+  gave : {c : Counts} → first counting w ≡ done → c ≡ counts_given w → Ok c ≡ counted w
   unfolding counted given
   gave h is = rw is (gives _ h)
 
@@ -46,7 +47,7 @@ module _ (w : Writer) where
       unfolding counting writing
       past_arguments = passed _ _ _ _ w written ∙ passed _ _ _ _ w fit
 
-      pub plain_counted : is_lasso (kind w) ≡ false → Ok 0 ≡ counted w
+      pub plain_counted : is_lasso (kind w) ≡ false → Ok (record { n = w.n; m = w.m; ms = 0 }) ≡ counted w
       unfolding counting writing counts_given
       plain_counted no_lasso =
           gave (past_arguments ∙ passed _ _ _ _ w (rw no_lasso) ∙ passed _ _ _ _ w (rw no_lasso) ∙ passes_done [] w tt) (rw no_lasso)
@@ -61,7 +62,7 @@ module _ (w : Writer) where
           unfolding counting writing
           bad_ms h = tells (past_arguments ∙ passed _ _ _ _ w (rw (lasso, le-leb _ _ some)) ∙ failed _ _ _ _ w (rw (lasso, h)))
 
-          pub lasso_counted : within rows (ms_given w) ≡ true → Ok (nat_abs (ms_given w)) ≡ counted w
+          pub lasso_counted : within rows (ms_given w) ≡ true → Ok (record { n = w.n; m = w.m; ms = nat_abs (ms_given w) }) ≡ counted w
           unfolding counting writing counts_given
           lasso_counted h =
               gave (past_arguments ∙ passed _ _ _ _ w (rw (lasso, le-leb _ _ some)) ∙ passed _ _ _ _ w (rw (lasso, h)) ∙ passes_done [] w tt) (rw lasso)
@@ -87,7 +88,7 @@ module _ (n m : ℕ) (zs : List ℤ) where
         rw (before_next variable_count (row_count ∷ []) (pos n) (pos m ∷ []) n_fits, before_here row_count [] (pos m) [] h) at
         (bad_arguments a_loop a_loop_written (rw (n_fits, h)))
 
-    pub loop_counted : within rows (pos m) ≡ true → Ok 0 ≡ counted (writer 1 n m zs [])
+    pub loop_counted : within rows (pos m) ≡ true → Ok (record { n = n; m = m; ms = 0 }) ≡ counted (writer 1 n m zs [])
     unfolding a_loop writer kind kind_of is_lasso
     loop_counted h = plain_counted a_loop a_loop_written (rw (n_fits, h)) refl
 

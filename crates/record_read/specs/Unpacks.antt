@@ -1,7 +1,8 @@
 -- What a reading makes of a record that has been checked: the check's answer says which fields the list has and where it starts.
 use Rattle.std.specs.Prelude.{ℕ, ◌+◌, ◌≤◌, ◌≡◌, cond, List, ◌++◌, ltb, ℤ, length, drop}
 use Rattle.record.specs.declared.Reading.{Reading}
-use Rattle.record.specs.Layouts.{kind_of, is_loop, Counts, length_of}
+use Rattle.record.specs.declared.Counts.{Counts}
+use Rattle.record.specs.Layouts.{kind_of, is_loop, length_of}
 use Rattle.record_fields.specs.Runs.{value_count}
 use Rattle.record_values.specs.ListsHeld.{list_of}
 use Rattle.record_check.specs.declared.Checked.{Checked}

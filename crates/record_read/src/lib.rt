@@ -6,10 +6,10 @@ ghost use Rattle.std.specs.Prelude.{◌≡◌};
 ghost use Rattle.record.specs.Readers.{loop_reader, certificate_reader, reads, fills};
 ghost use Rattle.record_read.specs.Unpacks.{refusal, Sized, unpacked, unpacks};
 
-use record::{Reading, Wanted};
+use record::{Counts, Reading, Wanted};
 use record_check::Checked;
 
-// A refusal: all but number and place are 0.
+// A refusal, in the fields of a reading: all but number and place are 0.
 fn refused(number: usize, place: usize) -> Reading
     ensures { result ≡ refusal number place }
 {
@@ -30,11 +30,12 @@ fn unpack(bytes: &[u8], found: Checked, values: &mut [i64]) -> Reading
     ensures values_after { values.new ≡ unpacks bytes.now found values.old }
 {
     let Checked { kind, n, m, ms } = found;
-    let count = record_fields::value_count(kind, n, m, ms);
+    let counts = Counts { n, m, ms };
+    let count = record_fields::value_count(kind, counts);
     if values.len() < count {
         return refused(7, count);
     }
-    record_values::read_list(bytes, kind, n, m, ms, values);
+    record_values::read_list(bytes, kind, counts, values);
     let (n, m) = if kind == 1 { (n, m) } else { (0, 0) };
     Reading {
         number: 0,

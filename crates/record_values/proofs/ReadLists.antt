@@ -1,13 +1,14 @@
 -- The list of values of a record of each kind, as the code reads it.
 use mathlib.Core.Path.{◌≡◌, refl, sym, ap, ◌∙◌}
-use Prim.Native.Nat.{ℕ, ◌+◌, ◌*◌}
+use Prim.Native.Nat.{ℕ, ◌*◌}
 use mathlib.Core.List.{List, [], ◌∷◌, ◌++◌}
 use lib.ListN.{drop, replicate}
 use Rattle.record.specs.Fields.{u16, width, widths, values}
-use Rattle.record.specs.Layouts.{other, kind_of, is_loop, Counts, variable_count, row_count, multiplier, scale, direction, rows_of, counts, layout, ahead, listed}
-use Rattle.record_fields.specs.Runs.{linear, weights, numbers}
+use Rattle.record.specs.declared.Counts.{Counts}
+use Rattle.record.specs.Layouts.{lasso, other, kind_of, is_loop, variable_count, row_count, multiplier, scale, direction, rows_of, counts, layout, ahead, listed}
+use Rattle.record_fields.specs.Runs.{numbers}
 use Rattle.record_fields.proofs.Forms.{values_run}
-use Rattle.record_fields.proofs.BodyParts.{ranking_is, exclusion_is, lasso_is}
+use Rattle.record_fields.proofs.BodyParts.{ranking_is, exclusion_is}
 use Rattle.record_values.specs.ListsHeld.{list_of}
 
 module _ (bytes : List ℕ) (kind : ℕ) (c : Counts) where
@@ -23,9 +24,9 @@ module _ (bytes : List ℕ) (kind : ℕ) (c : Counts) where
   unfolding list_of kind_of listed ahead counts is_loop widths
   list_3 is = rw is (ap (λ fs. values fs (drop 6 bytes)) (sym (exclusion_is c)))
 
-  pub list_4 : kind ≡ 4 → values ((row_count ∷ []) ++ (rows_of c.n c.ms ++ (linear c.n ++ (weights c.ms ++ weights (3 * c.m + 3))))) (drop 6 bytes) ≡ list_of bytes kind c
-  unfolding list_of kind_of listed ahead counts is_loop widths
-  list_4 is = rw is (ap (λ fs. values (row_count ∷ fs) (drop 6 bytes)) (sym (lasso_is c)))
+  pub list_4 : kind ≡ 4 → values (listed lasso c) (drop 6 bytes) ≡ list_of bytes kind c
+  unfolding list_of kind_of ahead is_loop widths
+  list_4 is = rw is
 
   pub list_other : kind_of kind ≡ other → [] ≡ list_of bytes kind c
   unfolding list_of listed ahead counts layout is_loop values

@@ -1,14 +1,15 @@
 // The list of values of a record, read from its bytes into a list that is long enough: runs of numbers of one form, parts of a body, a
 // whole list.
-#![tactic(auto, unfolding(record::specs::Fields::width))]
+#![tactic(auto, unfolding(record::specs::Fields::width, record::specs::Layouts::kind_of, record::specs::Layouts::length_of, record_fields::specs::Runs::value_count))]
 
 ghost use Rattle.std.specs.Prelude.{◌+◌, ◌*◌, ◌≤◌, ◌≡◌, [], ◌∷◌, ◌++◌, length, drop, replicate};
 ghost use Rattle.std.proofs.lemmas.List.Edits.{sets};
 ghost use Rattle.record.specs.Fields.{values as held};
-ghost use Rattle.record.specs.Layouts.{kind_of, row_count, scale, direction, rows_of, length_of};
-ghost use Rattle.record_fields.specs.Runs.{numbers, linear, weights, value_count};
+ghost use Rattle.record.specs.Layouts.{lasso, kind_of, scale, direction, rows_of, length_of, listed};
+ghost use Rattle.record_fields.specs.Runs.{numbers, linear, value_count};
 ghost use Rattle.record_values.specs.ListsHeld.{list_of};
 
+use record::Counts;
 use record_fields::Number;
 
 // The numbers of one form from a place of the bytes on, into the list from an index on.
@@ -52,10 +53,11 @@ fn read_exclusion(bytes: &[u8], n: usize, values: &mut [i64])
     read_run::<i32>(bytes, 8, 3 * n, values, 1);
 }
 
-fn read_lasso(bytes: &[u8], n: usize, m: usize, ms: usize, values: &mut [i64])
-    requires { (8 + (ms * (4 * n + 4) + (2 * n + 4 + (2 * ms + 6 * m + 10))) ≤ length bytes.now) × (1 + (ms * (2 * n + 1) + (n + 1 + (ms + 3 * m + 5))) ≤ length values.old) }
-    ensures { values.new ≡ sets values.old 0 (held ((row_count ∷ []) ++ (rows_of n ms ++ (linear n ++ (weights ms ++ weights (3 * m + 3))))) (drop 6 bytes.now)) }
+fn read_lasso(bytes: &[u8], counts: Counts, values: &mut [i64])
+    requires { (4 + length_of lasso counts ≤ length bytes.now) × (value_count lasso counts ≤ length values.old) }
+    ensures { values.new ≡ sets values.old 0 (held (listed lasso counts) (drop 6 bytes.now)) }
 {
+    let Counts { n, m, ms } = counts;
     let place = 8 + ms * (4 * n + 4);
     let index = 1 + ms * (2 * n + 1);
     read_run::<u16>(bytes, 6, 1, values, 0);
@@ -73,16 +75,16 @@ fn read_lasso(bytes: &[u8], n: usize, m: usize, ms: usize, values: &mut [i64])
 // ---- a whole list
 
 // The list of values of a record of a kind: the kind number decides its layout.
-pub fn read_list(bytes: &[u8], kind: usize, n: usize, m: usize, ms: usize, values: &mut [i64])
-    requires bytes_len { length bytes.now ≡ 4 + length_of (kind_of kind) (record { n = n; m = m; ms = ms }) }
-    requires ms_in_bounds { value_count (kind_of kind) (record { n = n; m = m; ms = ms }) ≤ length values.old }
-    ensures { values.new ≡ sets values.old 0 (list_of bytes.now kind (record { n = n; m = m; ms = ms })) }
+pub fn read_list(bytes: &[u8], kind: usize, counts: Counts, values: &mut [i64])
+    requires bytes_len { length bytes.now ≡ 4 + length_of (kind_of kind) counts }
+    requires ms_in_bounds { value_count (kind_of kind) counts ≤ length values.old }
+    ensures { values.new ≡ sets values.old 0 (list_of bytes.now kind counts) }
 {
     match kind {
-        1 => read_rows(bytes, 10, n, m, values, 0),
-        2 => read_run::<u16>(bytes, 6, 2 * m, values, 0),
-        3 => read_exclusion(bytes, n, values),
-        4 => read_lasso(bytes, n, m, ms, values),
+        1 => read_rows(bytes, 10, counts.n, counts.m, values, 0),
+        2 => read_run::<u16>(bytes, 6, 2 * counts.m, values, 0),
+        3 => read_exclusion(bytes, counts.n, values),
+        4 => read_lasso(bytes, counts, values),
         _ => (),
     }
 }

@@ -13,9 +13,10 @@ use Rattle.refusal.specs.declared.Fault.{Fault}
 use Rattle.refusal.specs.Faults.{result_of}
 use Rattle.refusal.specs.Tests.{Told, done, refused, first}
 use Rattle.refusal.proofs.TestLaws.{passed, failed, passes_done, done_passes, first_then, first_told}
-use Rattle.record.specs.Layouts.{Counts, length_of}
+use Rattle.record.specs.declared.Counts.{Counts}
+use Rattle.record.specs.Layouts.{length_of}
 use Rattle.record.specs.Writings.{written_of}
-use Rattle.record.specs.Writers.{Writer, kind, fields, length_stated, numbers_ahead, record_bytes, writing, answer, filled, writer, writes, room_after}
+use Rattle.record.specs.Writers.{Writer, kind, counts_given, fields, length_stated, numbers_ahead, record_bytes, writing, answer, filled, writer, writes, room_after}
 use Rattle.record.proofs.KindLaws.{known_small}
 use Rattle.record.proofs.Lengths.{length_law, length_most}
 use Rattle.record_fields.proofs.Copies.{sets_front}
@@ -38,20 +39,20 @@ module _ (w : Writer) (room : List ℕ) (room_is : w.room ≡ length room) where
   pass_on f is = refuses (first_told settling (drop 6 writing) w f.number f.place (settled_refused w f (is ∙ any_room w)))
 
   -- it makes one
-  module _ (ms : ℕ) (is : Ok ms ≡ settled (writer w.kind_number w.n w.m w.list [])) where
-    its : Settled w ms
-    its = says w ms (is ∙ any_room w)
+  module _ (c : Counts) (is : Ok c ≡ settled (writer w.kind_number w.n w.m w.list [])) where
+    its : Settled w c
+    its = says w c (is ∙ any_room w)
 
-    pub small : (w.n ≤ 16) × (w.m ≤ 64) × (ms ≤ 64)
+    pub small : (c.n ≤ 16) × (c.m ≤ 64) × (c.ms ≤ 64)
     small = (its.variables, its.rows, its.stem_rows)
 
     then : first writing w ≡ first (drop 6 writing) w
     unfolding settling writing
-    then = first_then settling (drop 6 writing) w (done_passes settling w (settled_done w ms (is ∙ any_room w)))
+    then = first_then settling (drop 6 writing) w (done_passes settling w (settled_done w c (is ∙ any_room w)))
 
-    module _ (long : ℕ) (long_is : long ≡ length_of (kind w) (record { n = w.n; m = w.m; ms = ms })) where
+    module _ (long : ℕ) (long_is : long ≡ length_of (kind w) c) where
       pub long_most : long ≤ 4914
-      long_most = rw long_is (length_most (kind w) (record { n = w.n; m = w.m; ms = ms }) its.variables its.rows its.stem_rows)
+      long_most = rw long_is (length_most (kind w) c its.variables its.rows its.stem_rows)
 
       stated : long ≡ length_stated w
       unfolding length_stated
@@ -64,16 +65,16 @@ module _ (w : Writer) (room : List ℕ) (room_is : w.room ≡ length room) where
           rw stated (refuses (then ∙ failed _ _ _ _ w (lt-leb _ _ few)))
 
       module _ (enough : 4 + long ≤ length room) where
-        pub ready : ToWrite w.kind_number (record { n = w.n; m = w.m; ms = ms }) long w.list room
+        pub ready : ToWrite w.kind_number c long w.list room
         unfolding kind fields
         ready =
             record {
-              fitting = record { variables = its.variables; rows = its.rows; counted = rw its.counts_are its.long; fit = rw its.counts_are its.fit };
+              fitting = record { variables = its.variables; rows = its.rows; counted = its.long; fit = its.fit };
               known = its.known;
               kind_fits = omega (arith, known_small w.kind_number its.known);
               long_is = long_is;
               long_fits = (
-                omega (arith, long_is, length_law (kind w) (record { n = w.n; m = w.m; ms = ms }) its.known),
+                omega (arith, long_is, length_law (kind w) c its.known),
                 omega (arith, long_most),
               );
               room_for = enough;
@@ -81,20 +82,19 @@ module _ (w : Writer) (room : List ℕ) (room_is : w.room ≡ length room) where
 
         -- the bytes of the record
         bytes : List ℕ
-        bytes = digits 4 long ++ (digits 2 w.kind_number ++ body_bytes w.kind_number (record { n = w.n; m = w.m; ms = ms }) w.list)
+        bytes = digits 4 long ++ (digits 2 w.kind_number ++ body_bytes w.kind_number c w.list)
 
         bytes_are : bytes ≡ record_bytes w
-        unfolding bytes record_bytes body_bytes numbers_ahead fields kind
+        unfolding bytes record_bytes body_bytes numbers_ahead fields kind counts_given
         bytes_are = rw (its.counts_are, stated)
 
         bytes_long : length bytes ≡ 4 + long
         unfolding bytes kind
         bytes_long =
-            let c : Counts = record { n = w.n; m = w.m; ms = ms } in
             simp (length-append, length_digits) (omega (arith, long_is, body_long w.kind_number c w.list ready.fitting ready.known))
 
         pub written : {last : List ℕ}
-            → last ≡ sets room 0 (digits 4 long ++ (digits 2 w.kind_number ++ body_bytes w.kind_number (record { n = w.n; m = w.m; ms = ms }) w.list))
+            → last ≡ sets room 0 (digits 4 long ++ (digits 2 w.kind_number ++ body_bytes w.kind_number c w.list))
             → (Ok (4 + long) ≡ bytes_told w) × (last ≡ room_after w room)
         unfolding bytes_told result_of room_after filled writing bytes
         written out =

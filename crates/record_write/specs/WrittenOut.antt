@@ -3,7 +3,8 @@ use Rattle.std.specs.Prelude.{ℕ, ◌+◌, ◌≤◌, ◌<◌, ◌≡◌, true,
 use Rattle.refusal.specs.declared.Fault.{Fault}
 use Rattle.refusal.specs.Faults.{result_of}
 use Rattle.refusal.specs.Tests.{first}
-use Rattle.record.specs.Layouts.{kind_of, is_known, Counts, length_of}
+use Rattle.record.specs.declared.Counts.{Counts}
+use Rattle.record.specs.Layouts.{kind_of, is_known, length_of}
 use Rattle.record.specs.Writers.{Writer, length_stated, writing}
 use Rattle.record_fill.specs.Bodies.{Fitting}
 

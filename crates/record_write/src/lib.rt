@@ -9,25 +9,17 @@ ghost use Rattle.record.specs.Writers.{writer, writes, room_after};
 ghost use Rattle.record_fill.specs.Bodies.{body_bytes};
 ghost use Rattle.record_write.specs.WrittenOut.{ToWrite, bytes_told};
 
-use record::Writing;
+use record::{Counts, Writing};
 use refusal::{Fault, refused};
 
 // Length and kind, then the body in the part of the room after the kind.
-fn write_out(
-    kind: usize,
-    n: usize,
-    m: usize,
-    ms: usize,
-    long: usize,
-    values: &[i64],
-    room: &mut [u8],
-)
-    requires { ToWrite kind (record { n = n; m = m; ms = ms }) long values.now room.old }
-    ensures { room.new ≡ sets room.old 0 (digits 4 long ++ (digits 2 kind ++ body_bytes kind (record { n = n; m = m; ms = ms }) values.now)) }
+fn write_out(kind: usize, counts: Counts, long: usize, values: &[i64], room: &mut [u8])
+    requires { ToWrite kind counts long values.now room.old }
+    ensures { room.new ≡ sets room.old 0 (digits 4 long ++ (digits 2 kind ++ body_bytes kind counts values.now)) }
 {
     endian::put_u32(room, 0, long);
     endian::put_u16(room, 4, kind);
-    record_fill::write_body(&mut room[6..], kind, n, m, ms, values);
+    record_fill::write_body(&mut room[6..], kind, counts, values);
 }
 
 // Writes a record, and says how many bytes it has.
@@ -41,12 +33,12 @@ fn write_bytes(
     ensures value { result ≡ bytes_told (writer kind n m values.now room.old) }
     ensures room_filled { room.new ≡ room_after (writer kind n m values.now room.old) room.old }
 {
-    let ms = record_given::settle(kind, n, m, values)?;
-    let long = record_fields::record_length(kind, n, m, ms);
+    let counts = record_given::settle(kind, n, m, values)?;
+    let long = record_fields::record_length(kind, counts);
     if room.len() < 4 + long {
         return refused(7, 4 + long);
     }
-    write_out(kind, n, m, ms, long, values, room);
+    write_out(kind, counts, long, values, room);
     Ok(4 + long)
 }
 

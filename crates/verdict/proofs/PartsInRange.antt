@@ -14,7 +14,8 @@ use Rattle.whole.specs.Sums.{Each}
 use Rattle.record.specs.Contents.{In, ListIn, CountsIn, RowsIn, RankingIn, ExclusionIn, LassoIn}
 use Rattle.record.specs.Fields.{Field}
 use Rattle.record.specs.Writers as W
-use Rattle.record.specs.Layouts.{Counts, loop, ranking, exclusion, lasso, is_loop, is_lasso, is_known, entry, right_side, multiplier, scale, direction, row_count, row, rows_of, counts, layout, listed}
+use Rattle.record.specs.declared.Counts.{Counts}
+use Rattle.record.specs.Layouts.{loop, ranking, exclusion, lasso, is_loop, is_lasso, is_known, entry, right_side, multiplier, scale, direction, row_count, row, rows_of, counts, layout, listed}
 use Rattle.record.specs.Ranges.{◌to◌, multipliers, scales, rows, variables}
 use Rattle.record.specs.Readers as R
 use Rattle.record.specs.Readers.{Reader}

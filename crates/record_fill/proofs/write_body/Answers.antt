@@ -1,19 +1,8 @@
-use Rattle.std.proofs.Common.{ap, ◌∙◌, arith, rules}
+use Rattle.std.proofs.Common.{ap, ◌∙◌, rules}
 use Rattle.std.proofs.lemmas.List.Edits.{sets}
-use Rattle.record.specs.Fields.{width}
-use Rattle.record.specs.Layouts.{kind_of, length_of}
 use Rattle.record.proofs.KindLaws.{other_kind}
-use Rattle.record_fields.specs.Runs.{value_count}
-use Rattle.record_fill.proofs.BodyBytes.{bytes_1, bytes_2, bytes_3, bytes_4, bytes_other, fit_1, fit_2, fit_3, fit_4}
+use Rattle.record_fill.proofs.BodyBytes.{bytes_1, bytes_2, bytes_3, bytes_4, bytes_other, fit_1, fit_2, fit_3}
 use Rattle.record_fill.proofs.write_body.Goals as goal
-
-pub write_loop-requires-clause-there : goal.write_loop-requires-clause-there
-unfolding kind_of value_count
-write_loop-requires-clause-there c = omega (arith, rw c.in-1.is at c.requires.fitting.counted)
-
-pub write_loop-requires-clause-room : goal.write_loop-requires-clause-room
-unfolding kind_of length_of
-write_loop-requires-clause-room c = omega (arith, rw c.in-1.is at c.requires.ms_bound)
 
 pub write_loop-requires-clause-fit : goal.write_loop-requires-clause-fit
 write_loop-requires-clause-fit c = let a = c.args in fit_1 a.kind _ a.values.now c.requires.fitting.fit c.in-1.is
@@ -21,44 +10,17 @@ write_loop-requires-clause-fit c = let a = c.args in fit_1 a.kind _ a.values.now
 pub returns-in-1 : goal.returns-in-1
 returns-in-1 c = let a = c.args in c.write_loop.ensures ∙ ap (sets a.body.now 0) (bytes_1 a.kind _ a.values.now c.in-1.is)
 
-pub write_run-requires-clause-there : goal.write_run-requires-clause-there
-unfolding kind_of value_count
-write_run-requires-clause-there c = omega (arith, rw c.in-2.is at c.requires.fitting.counted)
-
-pub write_run-requires-clause-room : goal.write_run-requires-clause-room
-unfolding kind_of length_of width
-write_run-requires-clause-room c = omega (arith, rw c.in-2.is at c.requires.ms_bound)
-
 pub write_run-requires-clause-held : goal.write_run-requires-clause-held
 write_run-requires-clause-held c = let a = c.args in fit_2 a.kind _ a.values.now c.requires.fitting.fit c.in-2.is
 
 pub returns-in-2 : goal.returns-in-2
 returns-in-2 c = let a = c.args in c.write_run.ensures ∙ ap (sets a.body.now 0) (bytes_2 a.kind _ a.values.now c.in-2.is)
 
-pub write_exclusion-requires-clause-there : goal.write_exclusion-requires-clause-there
-unfolding kind_of value_count
-write_exclusion-requires-clause-there c = omega (arith, rw c.in-3.is at c.requires.fitting.counted)
-
-pub write_exclusion-requires-clause-room : goal.write_exclusion-requires-clause-room
-unfolding kind_of length_of
-write_exclusion-requires-clause-room c = omega (arith, rw c.in-3.is at c.requires.ms_bound)
-
 pub write_exclusion-requires-clause-fit : goal.write_exclusion-requires-clause-fit
 write_exclusion-requires-clause-fit c = let a = c.args in fit_3 a.kind _ a.values.now c.requires.fitting.fit c.in-3.is
 
 pub returns-in-3 : goal.returns-in-3
 returns-in-3 c = let a = c.args in c.write_exclusion.ensures ∙ ap (sets a.body.now 0) (bytes_3 a.kind _ a.values.now c.in-3.is)
-
-pub write_lasso-requires-clause-there : goal.write_lasso-requires-clause-there
-unfolding kind_of value_count
-write_lasso-requires-clause-there c = omega (arith, rw c.in-4.is at c.requires.fitting.counted)
-
-pub write_lasso-requires-clause-room : goal.write_lasso-requires-clause-room
-unfolding kind_of length_of
-write_lasso-requires-clause-room c = omega (arith, rw c.in-4.is at c.requires.ms_bound)
-
-pub write_lasso-requires-clause-fit : goal.write_lasso-requires-clause-fit
-write_lasso-requires-clause-fit c = let a = c.args in fit_4 a.kind _ a.values.now c.requires.fitting.fit c.in-4.is
 
 pub returns-in-4 : goal.returns-in-4
 returns-in-4 c = let a = c.args in c.write_lasso.ensures ∙ ap (sets a.body.now 0) (bytes_4 a.kind _ a.values.now c.in-4.is)

@@ -1,31 +1,8 @@
-use Rattle.std.proofs.Common.{ap, ◌∙◌, arith, rules}
+use Rattle.std.proofs.Common.{ap, ◌∙◌, rules}
 use Rattle.std.proofs.lemmas.List.Edits.{sets}
-use Rattle.record.specs.Fields.{width}
-use Rattle.record.specs.Layouts.{kind_of, length_of}
 use Rattle.record.proofs.KindLaws.{other_kind}
-use Rattle.record_fields.specs.Runs.{value_count}
 use Rattle.record_values.proofs.ReadLists.{list_1, list_2, list_3, list_4, list_other}
 use Rattle.record_values.proofs.read_list.Goals as goal
-
-pub read_rows-requires : goal.read_rows-requires
-unfolding kind_of length_of value_count
-read_rows-requires c = omega (arith, rw c.in-1.is at c.requires.bytes_len, rw c.in-1.is at c.requires.ms_in_bounds)
-
-pub overflow_mul-m : goal.overflow_mul-m
-unfolding kind_of value_count
-overflow_mul-m c = omega (arith, rw c.in-2.is at c.requires.ms_in_bounds)
-
-pub read_run-requires : goal.read_run-requires
-unfolding kind_of length_of value_count width
-read_run-requires c = omega (arith, rw c.in-2.is at c.requires.bytes_len, rw c.in-2.is at c.requires.ms_in_bounds)
-
-pub read_exclusion-requires : goal.read_exclusion-requires
-unfolding kind_of length_of value_count
-read_exclusion-requires c = omega (arith, rw c.in-3.is at c.requires.bytes_len, rw c.in-3.is at c.requires.ms_in_bounds)
-
-pub read_lasso-requires : goal.read_lasso-requires
-unfolding kind_of length_of value_count
-read_lasso-requires c = omega (arith, rw c.in-4.is at c.requires.bytes_len, rw c.in-4.is at c.requires.ms_in_bounds)
 
 pub returns-in-1 : goal.returns-in-1
 returns-in-1 c = let a = c.args in c.read_rows.ensures ∙ ap (sets a.values.now 0) (list_1 a.bytes.now a.kind _ c.in-1.is)

@@ -2,7 +2,6 @@
 use Rattle.std.proofs.Common.{◌+◌, ◌++◌, ◌∙◌, sym, ap, arith}
 use Rattle.endian.specs.Numbers.{digits}
 use Rattle.endian.proofs.Laws.{length_digits}
-use Rattle.record.specs.Layouts.{Counts}
 use Rattle.record_fields.proofs.Copies.{sets_both}
 use Rattle.record_fields.proofs.Stores.{put_is}
 use Rattle.record_fill.specs.Bodies.{body_bytes}
@@ -13,11 +12,10 @@ use Rattle.record_write.proofs.write_out.Goals as goal
 pub returns : goal.returns
 returns c =
     let a = c.args in
-    let its : Counts = record { n = a.n; m = a.m; ms = a.ms } in
-    let bytes = body_bytes a.kind its a.values.now in
+    let bytes = body_bytes a.kind a.counts a.values.now in
     let first = c.put_u32.new.room in
     let second = c.put_u16.new.room in
-    let stated = body_long a.kind its a.values.now c.requires.fitting c.requires.known ∙ sym c.requires.long_is in
+    let stated = body_long a.kind a.counts a.values.now c.requires.fitting c.requires.known ∙ sym c.requires.long_is in
     let tail = tail_sets second 6 bytes (omega (arith, stated)) c.write_body.ensures in
     let kind_and_body =
     sets_both first 4 6 (digits 2 a.kind) bytes (c.put_u16.ensures ∙ put_is first (digits 2 a.kind) 4 2 (length_digits 2 a.kind) (omega (arith, stated)))
