@@ -19,7 +19,7 @@ use Rattle.record.specs.Ranges.{within}
 use Rattle.record.specs.Readers.{stated_length, kind_number}
 use Rattle.record_fields.specs.Runs.{fault, run_told}
 use Rattle.record_fields.proofs.FirstFaults.{one_fits, one_out, all_fit, not_all_fit}
-use Rattle.record_check.specs.Checks.{Framed}
+use Rattle.record_check.specs.Framing.{Framed}
 use Rattle.record_paths.specs.PathCertificates.{Counted, components_in, component_in, before_missing, multipliers_before}
 use Rattle.record_paths.specs.PathCertificates.{all_multipliers, components_fields, certificate_fields, certificate_length, sound_lexicographic}
 use Rattle.record_paths.specs.PathFields.{component_counts, component_count, bytes_alone, is_kind, holds_counts, is_long, fields_fit}

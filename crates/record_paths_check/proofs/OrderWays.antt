@@ -14,7 +14,7 @@ use Rattle.record.specs.Fields.{Field}
 use Rattle.record.specs.Readers.{Reader, framing, stated_length, loop_reader}
 use Rattle.record_fields.specs.Runs.{fault, run_told}
 use Rattle.record_fields.proofs.ToldFaults.{run_told-test}
-use Rattle.record_check.specs.Checks.{Framed}
+use Rattle.record_check.specs.Framing.{Framed}
 use Rattle.record_check.proofs.FrameWays.{stopped, right, frame_passes}
 use Rattle.record_paths.specs.PathFields.{bytes_alone, fields_fit}
 

@@ -21,7 +21,7 @@ use Rattle.record.proofs.CountLimits.{variables_most, rows_most}
 use Rattle.record.proofs.Lengths.{widths_replicate}
 use Rattle.record_fields.specs.Runs.{fault, run_told}
 use Rattle.record_fields.proofs.FirstFaults.{fault_none, fault_next, fault_here, all_fit, not_all_fit}
-use Rattle.record_check.specs.Checks.{Framed}
+use Rattle.record_check.specs.Framing.{Framed}
 use Rattle.record_paths.specs.PathFields.{path_counts, path_count, bytes_alone, is_kind, holds_counts, is_long, fields_fit}
 use Rattle.record_paths.specs.PathLoops.{variables_in, paths_in, rows_in, all_rows, rows_before, paths_length, sound_paths}
 use Rattle.record_paths.proofs.RunFields.{within_both}

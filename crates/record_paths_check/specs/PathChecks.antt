@@ -6,7 +6,7 @@ use Rattle.refusal.specs.Faults.{result_of}
 use Rattle.refusal.specs.Places.{before_failing}
 use Rattle.refusal.specs.Tests.{Told, done, refused, first}
 use Rattle.record.specs.Ranges.{variables, rows, within}
-use Rattle.record_check.specs.Checks.{Framed}
+use Rattle.record_check.specs.Framing.{Framed}
 use Rattle.record_paths.specs.PathCertificates.{components_in, component_in}
 use Rattle.record_paths.specs.PathFields.{path_counts, component_counts, sum_of, bytes_alone}
 use Rattle.record_paths.specs.PathLoops.{variables_in, paths_in, rows_in, sound_paths}

@@ -6,7 +6,7 @@ ghost use Rattle.std.specs.Prelude.{◌+◌, ◌*◌, ◌≤◌, ◌≡◌, ◌+
 ghost use Rattle.refusal.specs.Faults.{result_of};
 ghost use Rattle.refusal.specs.Tests.{done, first};
 ghost use Rattle.record.specs.Layouts.{multiplier};
-ghost use Rattle.record_fields.specs.Runs.{fits, run_told};
+ghost use Rattle.record_fields.specs.Runs.{fits};
 ghost use Rattle.record_paths.specs.PathCertificates.{counted, component_fields, components_fields, sound_lexicographic};
 ghost use Rattle.record_paths.specs.PathFields.{fall, bytes_alone};
 ghost use Rattle.record_paths.specs.PathLoops.{rows_in, sound_paths};
@@ -14,7 +14,7 @@ ghost use Rattle.record_paths.proofs.FallBounds.{fall_wide, fall_range};
 ghost use Rattle.record_paths_check.specs.PathChecks.{walked, m_fits, component_there, multipliers_of};
 ghost use Rattle.record_paths_check.specs.PathChecks.{PathsCounted, ComponentsCounted, Numbered};
 
-use record_faults::{BodyField, Direction, RightSide};
+use record_faults::{BodyField, Direction, InBytes, Numbers, RightSide, Source};
 use refusal::{Fault, refused};
 
 // ---- walks along the paths: each is tested and counted at once
@@ -91,39 +91,38 @@ impl BodyField for Fall {
 }
 
 // r, δ0 and δ of one component.
-fn component_fault(bytes: &[u8], place: usize, n: usize) -> Result<(), Fault>
-    requires { place + (4 * n + 8) ≤ length bytes.now }
-    ensures { result ≡ result_of (run_told (component_fields n) bytes.now place) tt }
+fn component_fault<S: Source>(source: S, n: usize) -> Result<S, Fault>
+    requires { S.has source (component_fields n) }
+    ensures { result ≡ S.answer source (component_fields n) }
 {
-    let right = place + 4 * n;
-    record_faults::run_fault::<Direction>(bytes, place, n)?;
-    record_faults::field_fault::<RightSide>(bytes, right)?;
-    record_faults::field_fault::<Fall>(bytes, right + 4)
+    source
+        .run_fault::<Direction>(n)?
+        .field_fault::<RightSide>()?
+        .field_fault::<Fall>()
 }
 
-fn components_fault(bytes: &[u8], place: usize, n: usize, count: usize) -> Result<(), Fault>
-    requires { place + count * (4 * n + 8) ≤ length bytes.now }
-    ensures { result ≡ result_of (run_told (components_fields n count) bytes.now place) tt }
+fn components_fault<S: Source>(source: S, n: usize, count: usize) -> Result<S, Fault>
+    requires { S.has source (components_fields n count) }
+    ensures { result ≡ S.answer source (components_fields n count) }
 {
-    for i in 0..count {
-        component_fault(bytes, place + (4 * n + 8) * i, n)?;
+    let mut source = source;
+    for _ in 0..count {
+        source = component_fault(source, n)?;
     }
-    Ok(())
+    Ok(source)
 }
 
 // The components, and the multipliers of all paths as one run.
-fn argument_fault(
-    bytes: &[u8],
-    place: usize,
+fn argument_fault<S: Source>(
+    source: S,
     n: usize,
     components: usize,
     count: usize,
-) -> Result<(), Fault>
-    requires { (n ≤ 16) × (place + components * (4 * n + 8) + count * 2 ≤ length bytes.now) }
-    ensures { result ≡ result_of (run_told (components_fields n components ++ replicate count multiplier) bytes.now place) tt }
+) -> Result<S, Fault>
+    requires { S.has source (components_fields n components ++ replicate count multiplier) }
+    ensures { result ≡ S.answer source (components_fields n components ++ replicate count multiplier) }
 {
-    components_fault(bytes, place, n, components)?;
-    record_faults::multipliers_fault(bytes, place + components * (4 * n + 8), count)
+    record_faults::multipliers_fault(components_fault(source, n, components)?, count)
 }
 
 // ---- kind 5
@@ -142,7 +141,12 @@ fn rows_told(bytes: &[u8], n: usize, paths: usize) -> Result<(), Fault>
     if end != start + rows * (4 * n + 4) {
         return refused(3, 0);
     }
-    record_faults::rows_fault(bytes, start, n, rows)
+    let body = InBytes {
+        bytes,
+        place: start,
+    };
+    record_faults::rows_fault(body, n, rows)?;
+    Ok(())
 }
 
 // Whether bytes are a sound record of kind 5.
@@ -186,7 +190,12 @@ fn lists_told(loopbytes: &[u8], bytes: &[u8], components: usize) -> Result<(), F
     if end != start + components * (4 * n + 8) + 2 * multipliers {
         return refused(3, 0);
     }
-    argument_fault(bytes, start, n, components, multipliers)
+    let body = InBytes {
+        bytes,
+        place: start,
+    };
+    argument_fault(body, n, components, multipliers)?;
+    Ok(())
 }
 
 // Whether bytes are a sound record of kind 6 for a sound loop of kind 5.

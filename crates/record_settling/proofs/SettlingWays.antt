@@ -10,7 +10,7 @@ use Rattle.refusal.specs.Tests.{refused, first}
 use Rattle.refusal.proofs.TestLaws.{passed, failed}
 use Rattle.record.specs.Readers.{stated_length, kind_number}
 use Rattle.record_fields.specs.Runs.{run_told}
-use Rattle.record_check.specs.Checks.{Framed}
+use Rattle.record_check.specs.Framing.{Framed}
 use Rattle.record_paths.specs.PathFields.{bytes_alone, is_kind, is_long}
 use Rattle.record_paths_check.proofs.OrderWays.{past_frame, fields_told}
 use Rattle.record_settling.specs.SettlingRecords.{settling_fields, settling_length, sound_settling}

@@ -2,22 +2,21 @@
 // counts come from a sound loop, so they are within the limits. A record is visited once and never copied.
 #![tactic(auto)]
 
-ghost use Rattle.std.specs.Prelude.{◌+◌, ◌*◌, ◌≤◌, ◌≡◌, length};
+ghost use Rattle.std.specs.Prelude.{◌≤◌, ◌≡◌};
 ghost use Rattle.refusal.specs.Faults.{result_of};
 ghost use Rattle.refusal.specs.Tests.{first};
-ghost use Rattle.record_fields.specs.Runs.{run_told};
 ghost use Rattle.record_paths.specs.PathFields.{bytes_alone};
 ghost use Rattle.record_settling.specs.SettlingRecords.{settling_fields, sound_settling};
 
+use record_faults::{InBytes, Source, linear_fault, weights_fault};
 use refusal::{Fault, refused};
 
-// What the values tell: g and t are a linear part, k and all multipliers one of weights.
-fn settling_fault(bytes: &[u8], n: usize, m: usize) -> Result<(), Fault>
-    requires { 16 + 2 * n + 6 * m ≤ length bytes.now }
-    ensures { result ≡ result_of (run_told (settling_fields n m) bytes.now 6) tt }
+// The values: g and t are a linear part, k and all multipliers one of weights.
+fn settling_fault<S: Source>(source: S, n: usize, m: usize) -> Result<S, Fault>
+    requires { S.has source (settling_fields n m) }
+    ensures { result ≡ S.answer source (settling_fields n m) }
 {
-    record_faults::linear_fault(bytes, 6, n)?;
-    record_faults::weights_fault(bytes, 10 + 2 * n, 3 * m + 2)
+    weights_fault(linear_fault(source, n)?, 3 * m + 2)
 }
 
 // Whether bytes are a sound record of kind 8.
@@ -32,5 +31,6 @@ pub fn check_settling(bytes: &[u8], n: usize, m: usize) -> Result<(), Fault>
     if bytes.len() != 16 + 2 * n + 6 * m {
         return refused(3, 0);
     }
-    settling_fault(bytes, n, m)
+    settling_fault(InBytes { bytes, place: 6 }, n, m)?;
+    Ok(())
 }

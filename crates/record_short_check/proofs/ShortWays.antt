@@ -17,7 +17,7 @@ use Rattle.record.specs.Ranges.{variables, rows, within}
 use Rattle.record.specs.Readers.{stated_length, kind_number}
 use Rattle.record_fields.specs.Runs.{fault}
 use Rattle.record_fields.proofs.FirstFaults.{one_fits, one_out, all_fit, not_all_fit}
-use Rattle.record_check.specs.Checks.{Framed}
+use Rattle.record_check.specs.Framing.{Framed}
 use Rattle.record_paths.specs.PathFields.{bytes_alone, is_kind, holds_counts, is_long, fields_fit}
 use Rattle.record_paths_check.proofs.FieldFaults.{count_fits}
 use Rattle.record_paths_check.proofs.OrderWays.{past_frame, fields_told}

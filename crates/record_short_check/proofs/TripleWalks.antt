@@ -76,10 +76,11 @@ abbrev pub telling : Result (Unit {0}) Fault → Result (Unit {0}) Fault
 telling r = r
 
 -- one after another
-both_told : (s t : Told) → telling (result_and (telling (result_of s tt)) (telling (result_of t tt))) ≡ result_of (s then t) tt
+both_told : {A : Type 0} (s t : Told) (given : A) → telling (result_and (result_and (telling (result_of s tt)) (result_of t given)) (telling (Ok tt))) ≡ result_of (s then t) tt
 unfolding result_of ◌then◌
-both_told done t = refl
-both_told (refused k p) t = refl
+both_told done done given = refl
+both_told done (refused k p) given = refl
+both_told (refused k p) t given = refl
 
 -- ---- the walk
 
@@ -93,16 +94,16 @@ module _ (m : ℕ) (bytes : List ℕ) (count : ℕ) where
   walk_start = record { inside = omega arith; passed = λ k below. absurd (omega arith); kept = gives tt (values_none bytes) }
 
   module _ (i : ℕ) (values : Result (Unit {0}) Fault) (w : SoFar i values) where
-    pub walk_more : m ≤ 64 → i < count → telling (Ok tt) ≡ result_of (triple_told m bytes i) tt
-        → SoFar (i + 1) (result_and values (result_of (run_told (replicate 2 multiplier) bytes (10 + 6 * i)) tt))
-    walk_more few below right =
+    pub walk_more : {A : Type 0} (given : A) → m ≤ 64 → i < count → telling (Ok tt) ≡ result_of (triple_told m bytes i) tt
+        → SoFar (i + 1) (result_and (result_and values (result_of (run_told (replicate 2 multiplier) bytes (10 + 6 * i)) given)) (telling (Ok tt)))
+    walk_more given few below right =
         let here = triple_done m bytes i (told_done (triple_told m bytes i) tt tt right) in
         let start : 10 + 6 * i ≡ 8 + 6 * i + 2 = omega arith in
         let fields = past_row bytes (8 + 6 * i) (low_row m bytes i few here.0) in
         record {
           inside = omega arith;
           passed = λ k early. elim (dec_lt k i) [ yes h ↦ w.passed k h | no h ↦ let same : k ≡ i = omega arith in rw same (true_both _ _ here.0 here.1) ];
-          kept = rw (w.kept, start, ← fields) (both_told _ _ ∙ ap (λ t. result_of t tt) (values_more bytes i));
+          kept = rw (w.kept, start, ← fields) (both_told _ _ given ∙ ap (λ t. result_of t tt) (values_more bytes i));
         }
 
     pub walk_stops : i < count → (f : Fault) → telling (Err f) ≡ result_of (triple_told m bytes i) tt → telling (Err f) ≡ result_of (triples_told m bytes count) tt

@@ -9,6 +9,7 @@ ghost use Rattle.record_paths.specs.PathFields.{bytes_alone};
 ghost use Rattle.record_short.specs.ShortRecords.{row_rises, has_weight, sound_short};
 ghost use Rattle.record_short_check.specs.ShortChecks.{triple_told, triples_told};
 
+use record_faults::InBytes;
 use refusal::{Fault, refused};
 
 // ---- one triple
@@ -56,7 +57,13 @@ fn triples(bytes: &[u8], m: usize, count: usize) -> Result<(), Fault>
     let mut values = Ok(());
     for i in 0..count {
         triple(bytes, m, i)?;
-        values = values.and(record_faults::multipliers_fault(bytes, 10 + 6 * i, 2));
+        let pair = InBytes {
+            bytes,
+            place: 10 + 6 * i,
+        };
+        values = values
+            .and(record_faults::multipliers_fault(pair, 2))
+            .and(Ok(()));
     }
     values
 }

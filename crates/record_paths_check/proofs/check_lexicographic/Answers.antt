@@ -3,7 +3,7 @@ use Rattle.std.proofs.Common.{◌≡◌, ◌∙◌, sym, false, rules, Err, pos}
 use lib.ListN.{drop}
 use Rattle.refusal.proofs.FaultLaws.{refuses}
 use Rattle.record.specs.Ranges.{within}
-use Rattle.record_check.specs.Checks.{Framed}
+use Rattle.record_check.specs.Framing.{Framed}
 use Rattle.record_paths.specs.PathCertificates.{counted, components_in, sound_lexicographic}
 use Rattle.record_paths.specs.PathFields.{component_counts}
 use Rattle.record_paths_check.proofs.ArgumentWays.{other_kind, no_count, bad_count}

@@ -3,7 +3,7 @@ use Rattle.std.proofs.Common.{◌≡◌, ◌∙◌, sym, true, false, rules, Err
 use lib.ListN.{drop}
 use Rattle.refusal.proofs.FaultLaws.{refuses}
 use Rattle.record.specs.Ranges.{variables, within}
-use Rattle.record_check.specs.Checks.{Framed}
+use Rattle.record_check.specs.Framing.{Framed}
 use Rattle.record_paths.specs.PathFields.{path_counts}
 use Rattle.record_paths.specs.PathLoops.{variables_in, paths_in, sound_paths}
 use Rattle.record_paths_check.proofs.OrderWays.{frame_refuses, right_frame}

@@ -1,9 +1,7 @@
-use Rattle.std.proofs.Common.{◌≡◌}
-use Rattle.refusal.specs.Tests.{done}
-use Rattle.record_fields.specs.Runs.{run_told}
+use Rattle.std.proofs.Common.{◌≡◌, Ok}
 use Rattle.record_paths.specs.PathCertificates.{components_fields}
 use Rattle.record_paths_check.proofs.components_fault.Given as goal
 
--- the components so far are in range
-abbrev pub invariant-loop-i : goal.invariant-loop-i
-invariant-loop-i l = run_told (components_fields l.n l.i) l.bytes l.place ≡ done
+-- the source is behind the components so far
+abbrev pub invariant-loop : goal.invariant-loop
+invariant-loop g l = Ok l.source ≡ g.S.Numbers.answer l.fn.source (components_fields l.n l.counter)

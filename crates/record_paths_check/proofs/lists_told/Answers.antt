@@ -1,8 +1,13 @@
 -- `record_paths_check::lists_told` meets its contract.
-use Rattle.std.proofs.Common.{◌≡◌, ◌+◌, ◌*◌, ◌≤◌, ◌∙◌, sym, ap, arith, rules, Err}
+use Rattle.std.proofs.Common.{◌≡◌, ◌+◌, ◌*◌, ◌≤◌, ◌∙◌, sym, arith, rules, Err}
 use native.Mathlib.Nat.{mul-le-mul}
-use Rattle.refusal.specs.Faults.{result_of}
-use Rattle.refusal.proofs.FaultLaws.{refuses}
+use Rattle.std.proofs.lemmas.Result.{err_from_is_err_and}
+use Rattle.record.specs.Fields.{width}
+use Rattle.record.specs.Layouts.{multiplier}
+use Rattle.record.proofs.FieldLaws.{widths_append}
+use Rattle.record.proofs.Lengths.{widths_replicate}
+use Rattle.record_paths.proofs.PathWidths.{widths_components}
+use Rattle.refusal.proofs.FaultLaws.{refuses, handed_on, went_on}
 use Rattle.record_paths.specs.PathCertificates.{counted}
 use Rattle.record_paths.specs.PathLoops.{variables_in, paths_in}
 use Rattle.record_paths.proofs.PathsSound.{PathsSound, paths_sound}
@@ -94,17 +99,24 @@ returns-then-end-start-2 c =
     c.in_ok-multipliers.multipliers (sym c.in_ok-multipliers.was ∙ c.lists_walked.ensures) c.u16_at-n.result c.u16_at-n.ensures.0 c.if-end-start-2.true)
 
 pub argument_fault-requires : goal.argument_fault-requires
-unfolding variables_in
-argument_fault-requires c =
-    let few : c.u16_at-n.result ≤ 16 = rw c.u16_at-n.ensures.0 (paths_sound c.args.loopbytes.now c.requires.loop_sound).few_variables in
-    (few, omega (arith, c.if-end-start-2.false))
+unfolding width multiplier
+argument_fault-requires c = (simp (widths_append, widths_components, widths_replicate) (omega arith), search rules)
+
+pub returns-in_err-argument_fault : goal.returns-in_err-argument_fault
+unfolding counted variables_in paths_in
+returns-in_err-argument_fault c =
+    let a = c.args in
+    let p = err_from_is_err_and c.from_residual-in_err-argument_fault.result c.from_residual-in_err-argument_fault.ensures.1 in
+    let told =
+    values_told (counted a.loopbytes.now) a.bytes.now a.components c.requires.components_counted c.u16_at-paths.result c.u16_at-paths.ensures.0 c.if-end-start.false
+    c.in_ok-multipliers.multipliers (sym c.in_ok-multipliers.was ∙ c.lists_walked.ensures) c.u16_at-n.result c.u16_at-n.ensures.0 c.if-end-start-2.false in
+    rw (p.1, p.2, told) (handed_on _ _ _ _ c.in_err-argument_fault.ensures)
 
 pub returns : goal.returns
 unfolding counted variables_in paths_in
 returns c =
     let a = c.args in
-    c.argument_fault.ensures
-    ∙ ap (λ t. result_of t tt)
-    (sym
-    (values_told (counted a.loopbytes.now) a.bytes.now a.components c.requires.components_counted c.u16_at-paths.result c.u16_at-paths.ensures.0 c.if-end-start.false
-    c.in_ok-multipliers.multipliers (sym c.in_ok-multipliers.was ∙ c.lists_walked.ensures) c.u16_at-n.result c.u16_at-n.ensures.0 c.if-end-start-2.false))
+    let told =
+    values_told (counted a.loopbytes.now) a.bytes.now a.components c.requires.components_counted c.u16_at-paths.result c.u16_at-paths.ensures.0 c.if-end-start.false
+    c.in_ok-multipliers.multipliers (sym c.in_ok-multipliers.was ∙ c.lists_walked.ensures) c.u16_at-n.result c.u16_at-n.ensures.0 c.if-end-start-2.false in
+    rw told (went_on _ _ _ _ c.in_ok-argument_fault.ensures)

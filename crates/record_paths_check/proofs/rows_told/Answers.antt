@@ -1,7 +1,8 @@
 -- `record_paths_check::rows_told` meets its contract.
-use Rattle.std.proofs.Common.{◌≡◌, ◌+◌, ◌*◌, ◌≤◌, ◌∙◌, sym, ap, arith, rules, Err}
-use Rattle.refusal.specs.Faults.{result_of}
-use Rattle.refusal.proofs.FaultLaws.{refuses}
+use Rattle.std.proofs.Common.{◌≡◌, ◌+◌, ◌*◌, ◌≤◌, ◌∙◌, sym, arith, rules, Err}
+use Rattle.std.proofs.lemmas.Result.{err_from_is_err_and}
+use Rattle.record.proofs.Lengths.{widths_rows}
+use Rattle.refusal.proofs.FaultLaws.{refuses, handed_on, went_on}
 use Rattle.record_paths.specs.PathLoops.{rows_in}
 use Rattle.record_paths_check.specs.PathChecks.{m_fits}
 use Rattle.record_paths_check.proofs.PathWalks.{walk_refused}
@@ -50,10 +51,18 @@ returns-then-end-start-2 c =
     ∙ refuses tt
     (bad_length a.bytes.now a.n a.paths c.requires c.in_ok-rows.rows (sym c.in_ok-rows.was ∙ c.rows_walked.ensures) c.if-end-start.false c.if-end-start-2.true)
 
+pub rows_fault-requires : goal.rows_fault-requires
+rows_fault-requires c = (omega (arith, widths_rows c.args.n c.in_ok-rows.rows), search rules)
+
+pub returns-in_err-rows_fault : goal.returns-in_err-rows_fault
+returns-in_err-rows_fault c =
+    let a = c.args in
+    let p = err_from_is_err_and c.from_residual-in_err-rows_fault.result c.from_residual-in_err-rows_fault.ensures.1 in
+    let told = values_told a.bytes.now a.n a.paths c.requires c.in_ok-rows.rows (sym c.in_ok-rows.was ∙ c.rows_walked.ensures) c.if-end-start.false c.if-end-start-2.false in
+    rw (p.1, p.2, told) (handed_on _ _ _ _ c.in_err-rows_fault.ensures)
+
 pub returns : goal.returns
 returns c =
     let a = c.args in
-    c.rows_fault.ensures
-    ∙ ap (λ t. result_of t tt)
-    (sym
-    (values_told a.bytes.now a.n a.paths c.requires c.in_ok-rows.rows (sym c.in_ok-rows.was ∙ c.rows_walked.ensures) c.if-end-start.false c.if-end-start-2.false))
+    let told = values_told a.bytes.now a.n a.paths c.requires c.in_ok-rows.rows (sym c.in_ok-rows.was ∙ c.rows_walked.ensures) c.if-end-start.false c.if-end-start-2.false in
+    rw told (went_on _ _ _ _ c.in_ok-rows_fault.ensures)

@@ -1,11 +1,14 @@
 -- `record_settling::check_settling` meets its contract.
-use Rattle.std.proofs.Common.{◌≡◌, ◌∙◌, sym, ap, rules, Err}
+use Rattle.std.proofs.Common.{◌≡◌, ◌∙◌, sym, arith, rules, Err}
+use Rattle.std.proofs.lemmas.Result.{err_from_is_err_and}
 use lib.ListN.{drop}
-use Rattle.refusal.specs.Faults.{result_of}
-use Rattle.refusal.proofs.FaultLaws.{refuses}
-use Rattle.record_check.specs.Checks.{Framed}
+use Rattle.refusal.proofs.FaultLaws.{refuses, handed_on, went_on}
+use Rattle.record.proofs.FieldLaws.{widths_append}
+use Rattle.record_fields.proofs.BodyParts.{widths_linear, widths_weights}
+use Rattle.record_check.specs.Framing.{Framed}
 use Rattle.record_paths_check.proofs.OrderWays.{frame_refuses, right_frame}
 use Rattle.record_settling.specs.SettlingRecords.{sound_settling}
+use Rattle.record_settling.proofs.SettlingValues.{settling_is}
 use Rattle.record_settling.proofs.SettlingWays.{other_kind, bad_length, values_told}
 use Rattle.record_settling.proofs.check_settling.Goals as goal
 
@@ -34,9 +37,22 @@ returns-then-bytes-n c =
     let right = right_frame a.bytes.now (sym c.in_ok-frame.was ∙ c.frame.ensures) in
     c.refused-then-bytes-n.ensures ∙ refuses tt (bad_length a.bytes.now a.n a.m right (sym c.u16_at.ensures.0 ∙ c.if-u16_at-ne8.false) c.if-bytes-n.true)
 
+pub settling_fault-requires : goal.settling_fault-requires
+settling_fault-requires c =
+    let a = c.args in
+    (rw (settling_is, widths_append, widths_linear, widths_weights) (omega arith), search rules)
+
+pub returns-in_err-settling_fault : goal.returns-in_err-settling_fault
+returns-in_err-settling_fault c =
+    let a = c.args in
+    let right = right_frame a.bytes.now (sym c.in_ok-frame.was ∙ c.frame.ensures) in
+    let p = err_from_is_err_and c.from_residual-in_err-settling_fault.result c.from_residual-in_err-settling_fault.ensures.1 in
+    let told = values_told a.bytes.now a.n a.m right (sym c.u16_at.ensures.0 ∙ c.if-u16_at-ne8.false) c.if-bytes-n.false in
+    rw (p.1, p.2, told) (handed_on _ _ _ _ c.in_err-settling_fault.ensures)
+
 pub returns : goal.returns
 returns c =
     let a = c.args in
     let right = right_frame a.bytes.now (sym c.in_ok-frame.was ∙ c.frame.ensures) in
     let told = values_told a.bytes.now a.n a.m right (sym c.u16_at.ensures.0 ∙ c.if-u16_at-ne8.false) c.if-bytes-n.false in
-    c.settling_fault.ensures ∙ ap (λ t. result_of t tt) (sym told)
+    rw told (went_on _ _ _ _ c.in_ok-settling_fault.ensures)

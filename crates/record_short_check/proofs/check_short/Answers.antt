@@ -5,7 +5,7 @@ use Rattle.refusal.specs.Faults.{result_of}
 use Rattle.refusal.proofs.FaultLaws.{refuses}
 use Rattle.record.specs.Ranges.{rows, within}
 use Rattle.record.proofs.CountLimits.{arguments_most}
-use Rattle.record_check.specs.Checks.{Framed}
+use Rattle.record_check.specs.Framing.{Framed}
 use Rattle.record_paths_check.proofs.OrderWays.{frame_refuses, right_frame}
 use Rattle.record_short.specs.ShortRecords.{triples_in, sound_short}
 use Rattle.record_short_check.specs.ShortChecks.{triples_told}

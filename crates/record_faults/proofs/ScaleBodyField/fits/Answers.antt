@@ -1,7 +1,0 @@
--- What the comparison tests of the stored number is what `fits` says.
-use mathlib.Core.Path.{◌∙◌}
-use Rattle.record_fields.proofs.StoredInRange.{scale_fits}
-use Rattle.record_faults.proofs.ScaleBodyField.fits.Goals as goal
-
-pub returns : goal.returns
-returns c = c.between.ensures ∙ scale_fits c.args.bytes.now c.args.place c.u16_at.result c.u16_at.ensures.0

@@ -1,0 +1,2 @@
+-- bytes as a source of numbers
+pub mod BytesAnswers

@@ -1,0 +1,2 @@
+-- a list of values as a source of numbers
+pub mod ListAnswers
