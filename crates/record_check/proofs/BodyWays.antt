@@ -15,10 +15,10 @@ use Rattle.record.specs.Fields.{u16, Field, width, number, widths}
 use Rattle.record.specs.Layouts.{is_known, counts, length_of}
 use Rattle.record.specs.Ranges.{within}
 use Rattle.record.specs.Readers.{Reader, framing, stated_length, kind, counts_read, fields, list_start, count_list, list, arguments_fit, sound}
-use Rattle.record.proofs.Lengths.{length_law}
 use Rattle.record_fields.specs.Runs.{field_number_at, fits, fault, fault_told, run_told}
 use Rattle.record_fields.proofs.FirstFaults.{all_fit, not_all_fit, fault_within}
-use Rattle.record_check.specs.Checks.{checks, Framed}
+use Rattle.record_check.specs.Checks.{checks}
+use Rattle.record_check.specs.Framing.{Framed}
 use Rattle.record_check.proofs.FrameWays.{refusal, says}
 
 module _ (r : Reader) (f : Framed r.bytes) where

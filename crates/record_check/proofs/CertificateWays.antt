@@ -20,8 +20,9 @@ use Rattle.record.specs.Wants.{wants_of}
 use Rattle.record.proofs.KindLaws.{wanted_no_loop, wanted_known}
 use Rattle.record_fields.specs.Runs.{fault, run_told}
 use Rattle.record_fields.proofs.FirstFaults.{fault_none}
-use Rattle.record_check.specs.Checks.{said, checks, certificate_check, Framed}
-use Rattle.record_check.proofs.FrameWays.{stopped, right, refusal}
+use Rattle.record_check.specs.Checks.{said, checks, certificate_check}
+use Rattle.record_check.specs.Framing.{Framed}
+use Rattle.record_check.proofs.FrameWays.{refusal}
 use Rattle.record_check.proofs.BodyWays.{unwanted, bad_arguments, bad_length, values_told}
 
 module _ (wanted : Wanted) (bytes : List ℕ) (n m : ℕ) (f : Framed bytes) where
@@ -83,11 +84,11 @@ module _ (wanted : Wanted) (bytes : List ℕ) (n m : ℕ) (f : Framed bytes) whe
         unfolding said certificate_check certificate kind_number
         plain_said = rw plain_read
 
-        pub plain_out : (e : Fault) → stopped e ≡ result_of (run_told (layout k (record { n = n; m = m; ms = 0 })) bytes 6) tt → Err e ≡ checks (certificate_check wanted bytes n m)
+        pub plain_out : {A : Type 0} (given : A) (e : Fault) → Err e ≡ result_of (run_told (layout k (record { n = n; m = m; ms = 0 })) bytes 6) given → Err e ≡ checks (certificate_check wanted bytes n m)
         unfolding checks certificate
-        plain_out e h = rw plain_told (handed_on (run_told (layout k (record { n = n; m = m; ms = 0 })) bytes 6) tt (said certificate) e h)
+        plain_out given e h = rw plain_told (handed_on (run_told (layout k (record { n = n; m = m; ms = 0 })) bytes 6) given (said certificate) e h)
 
-        pub plain_sound : right ≡ result_of (run_told (layout k (record { n = n; m = m; ms = 0 })) bytes 6) tt
+        pub plain_sound : {A : Type 0} (given x : A) → Ok x ≡ result_of (run_told (layout k (record { n = n; m = m; ms = 0 })) bytes 6) given
             → Ok (record { kind = little_at 2 bytes 4; n = n; m = m; ms = 0 }) ≡ checks (certificate_check wanted bytes n m)
         unfolding checks certificate
-        plain_sound h = rw (plain_told, plain_said) (went_on (run_told (layout k (record { n = n; m = m; ms = 0 })) bytes 6) tt tt _ h)
+        plain_sound given x h = rw (plain_told, plain_said) (went_on (run_told (layout k (record { n = n; m = m; ms = 0 })) bytes 6) given x _ h)

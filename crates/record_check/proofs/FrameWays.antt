@@ -15,7 +15,8 @@ use Rattle.refusal.proofs.TestLaws.{passed, failed, passes_done, done_passes, fi
 use Rattle.record.specs.declared.Wanted.{Wanted}
 use Rattle.record.specs.Readers.{Reader, framing, stated_length, sound, loop_reader}
 use Rattle.record_check.specs.declared.Checked.{Checked}
-use Rattle.record_check.specs.Checks.{said, checks, certificate_check, Framed}
+use Rattle.record_check.specs.Checks.{said, checks, certificate_check}
+use Rattle.record_check.specs.Framing.{Framed}
 
 -- a refusal of what gives nothing, and that there is none
 abbrev pub stopped : Fault → Result (Unit {0}) Fault

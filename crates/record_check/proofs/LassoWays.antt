@@ -21,8 +21,9 @@ use Rattle.record.specs.Wants.{wants_of}
 use Rattle.record_fields.specs.Runs.{fits, fault, run_told}
 use Rattle.record_fields.proofs.FirstFaults.{fault_none, fault_next, fault_here}
 use Rattle.record_fields.proofs.ToldFaults.{run_told-next}
-use Rattle.record_check.specs.Checks.{said, checks, certificate_check, Framed}
-use Rattle.record_check.proofs.FrameWays.{stopped, right, refusal}
+use Rattle.record_check.specs.Checks.{said, checks, certificate_check}
+use Rattle.record_check.specs.Framing.{Framed}
+use Rattle.record_check.proofs.FrameWays.{refusal}
 use Rattle.record_check.proofs.BodyWays.{no_counts, bad_count, bad_length, values_told, count_fits}
 
 module _ (wanted : Wanted) (bytes : List ℕ) (n m : ℕ) (f : Framed bytes) (is : little_at 2 bytes 4 ≡ 4) (known : wants_of wanted lasso ≡ true)
@@ -89,10 +90,10 @@ module _ (wanted : Wanted) (bytes : List ℕ) (n m : ℕ) (f : Framed bytes) (is
         unfolding said certificate_check certificate kind_number
         lasso_said = rw (lasso_read, is)
 
-        pub lasso_out : (e : Fault) → stopped e ≡ result_of (run_told (layout lasso (record { n = n; m = m; ms = ms })) bytes 8) tt → Err e ≡ checks (certificate_check wanted bytes n m)
+        pub lasso_out : {A : Type 0} (given : A) (e : Fault) → Err e ≡ result_of (run_told (layout lasso (record { n = n; m = m; ms = ms })) bytes 8) given → Err e ≡ checks (certificate_check wanted bytes n m)
         unfolding checks certificate
-        lasso_out e h = rw lasso_values (handed_on (run_told (layout lasso (record { n = n; m = m; ms = ms })) bytes 8) tt (said certificate) e h)
+        lasso_out given e h = rw lasso_values (handed_on (run_told (layout lasso (record { n = n; m = m; ms = ms })) bytes 8) given (said certificate) e h)
 
-        pub lasso_sound : right ≡ result_of (run_told (layout lasso (record { n = n; m = m; ms = ms })) bytes 8) tt → Ok (record { kind = 4; n = n; m = m; ms = ms }) ≡ checks (certificate_check wanted bytes n m)
+        pub lasso_sound : {A : Type 0} (given x : A) → Ok x ≡ result_of (run_told (layout lasso (record { n = n; m = m; ms = ms })) bytes 8) given → Ok (record { kind = 4; n = n; m = m; ms = ms }) ≡ checks (certificate_check wanted bytes n m)
         unfolding checks certificate
-        lasso_sound h = rw (lasso_values, lasso_said) (went_on (run_told (layout lasso (record { n = n; m = m; ms = ms })) bytes 8) tt tt _ h)
+        lasso_sound given x h = rw (lasso_values, lasso_said) (went_on (run_told (layout lasso (record { n = n; m = m; ms = ms })) bytes 8) given x _ h)

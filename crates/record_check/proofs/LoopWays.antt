@@ -19,8 +19,9 @@ use Rattle.record.specs.Readers.{Reader, kind_number, kind, counts_read, fields,
 use Rattle.record.proofs.KindLaws.{loop_known}
 use Rattle.record_fields.specs.Runs.{fault, run_told}
 use Rattle.record_fields.proofs.FirstFaults.{fault_none, fault_next, fault_here}
-use Rattle.record_check.specs.Checks.{said, checks, Framed}
-use Rattle.record_check.proofs.FrameWays.{stopped, right, refusal}
+use Rattle.record_check.specs.Checks.{said, checks}
+use Rattle.record_check.specs.Framing.{Framed}
+use Rattle.record_check.proofs.FrameWays.{refusal}
 use Rattle.record_check.proofs.BodyWays.{no_counts, bad_count, bad_length, values_told, count_fits}
 
 module _ (bytes : List ℕ) (f : Framed bytes) (is : little_at 2 bytes 4 ≡ 1) where
@@ -97,10 +98,10 @@ module _ (bytes : List ℕ) (f : Framed bytes) (is : little_at 2 bytes 4 ≡ 1) 
           unfolding said loop_reader the_loop kind_number
           loop_said = rw (loop_read, is)
 
-          pub loop_out : (e : Fault) → stopped e ≡ result_of (run_told (rows_of n m) bytes 10) tt → Err e ≡ checks (loop_reader bytes [])
+          pub loop_out : {A : Type 0} (given : A) (e : Fault) → Err e ≡ result_of (run_told (rows_of n m) bytes 10) given → Err e ≡ checks (loop_reader bytes [])
           unfolding checks loop_reader the_loop
-          loop_out e h = rw loop_values (handed_on (run_told (rows_of n m) bytes 10) tt (said the_loop) e h)
+          loop_out given e h = rw loop_values (handed_on (run_told (rows_of n m) bytes 10) given (said the_loop) e h)
 
-          pub loop_sound : right ≡ result_of (run_told (rows_of n m) bytes 10) tt → Ok (record { kind = 1; n = n; m = m; ms = 0 }) ≡ checks (loop_reader bytes [])
+          pub loop_sound : {A : Type 0} (given x : A) → Ok x ≡ result_of (run_told (rows_of n m) bytes 10) given → Ok (record { kind = 1; n = n; m = m; ms = 0 }) ≡ checks (loop_reader bytes [])
           unfolding checks loop_reader the_loop
-          loop_sound h = rw (loop_values, loop_said) (went_on (run_told (rows_of n m) bytes 10) tt tt _ h)
+          loop_sound given x h = rw (loop_values, loop_said) (went_on (run_told (rows_of n m) bytes 10) given x _ h)

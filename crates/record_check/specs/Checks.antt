@@ -10,6 +10,7 @@ use Rattle.record.specs.Layouts.{Kind}
 use Rattle.record.specs.Ranges.{variables, rows, within}
 use Rattle.record.specs.Readers.{Reader, kind_number, counts_read, sound}
 use Rattle.record.specs.Wants.{wants_of}
+pub use Rattle.record_check.specs.Framing.{Framed}
 use Rattle.record_check.specs.declared.Checked.{Checked}
 
 -- what a record says of itself
@@ -24,11 +25,6 @@ unfoldable pub certificate_check : Wanted → List ℕ → ℕ → ℕ → Reade
 certificate_check wanted bytes n m = record { bytes = bytes; wants = wants_of wanted; n = n; m = m; room = 0 }
 
 -- ---- in parts
-
--- bytes that meet the tests of L against them
-pub record Framed (bytes : List ℕ) : Type 0 where
-  pub head : 6 ≤ length bytes
-  pub whole : length bytes ≡ 4 + little_at 4 bytes 0
 
 -- a certificate's record of a kind number that meets the tests up to its arguments
 pub record Opened (bytes : List ℕ) (number n m : ℕ) : Type 0 where

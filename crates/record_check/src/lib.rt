@@ -1,16 +1,20 @@
 // Whether bytes are a sound record: 01's "Order for a record" without a list to fill. A record is visited once and never copied.
 #![tactic(auto)]
 
-ghost use Rattle.std.specs.Prelude.{◌≡◌, true, false, []};
-ghost use Rattle.endian.specs.Numbers.{little_at};
+ghost use Rattle.std.specs.Prelude.{◌≡◌, ◌&&◌, true, false, [], pos};
 ghost use Rattle.refusal.specs.Faults.{result_of};
 ghost use Rattle.refusal.specs.Tests.{first};
 ghost use Rattle.record.specs.Layouts.{ranking, exclusion, lasso, kind_of};
+ghost use Rattle.record.specs.Ranges.{variables, rows, within};
 ghost use Rattle.record.specs.Readers.{framing, loop_reader};
 ghost use Rattle.record.specs.Wants.{wants_of};
-ghost use Rattle.record_check.specs.Checks.{checks, certificate_check, Framed, Opened, Answers};
+ghost use Rattle.record_check.specs.Checks.{checks, certificate_check, Answers};
 
+mod of_kind;
+
+pub use of_kind::OfKind;
 use record::Wanted;
+use record_faults::InBytes;
 use refusal::{Fault, refused};
 
 // What a check says of a sound record: its kind, by its number as it stands in the record, and its counts.
@@ -45,11 +49,10 @@ pub fn frame(bytes: &[u8]) -> Result<(), Fault>
 
 // ---- the kinds: layout, length formula and value range of each. A caller that knows the frame and the kind asks for the rest alone
 
-pub fn loop_record(bytes: &[u8]) -> Result<Checked, Fault>
-    requires framed { Framed bytes.now }
-    requires numbered { little_at 2 bytes.now 4 ≡ 1 }
-    ensures { result ≡ checks (loop_reader bytes.now []) }
+pub fn loop_record(opened: OfKind<1>) -> Result<Checked, Fault>
+    ensures { result ≡ checks (loop_reader opened.entry.bytes.now []) }
 {
+    let bytes = opened.bytes;
     let end = bytes.len();
     if end < 10 {
         return refused(3, 0);
@@ -65,7 +68,7 @@ pub fn loop_record(bytes: &[u8]) -> Result<Checked, Fault>
     if end != 10 + m * (4 * n + 4) {
         return refused(3, 0);
     }
-    record_faults::rows_fault(bytes, 10, n, m)?;
+    record_faults::rows_fault(InBytes { bytes, place: 10 }, n, m)?;
     Ok(Checked {
         kind: 1,
         n,
@@ -74,15 +77,16 @@ pub fn loop_record(bytes: &[u8]) -> Result<Checked, Fault>
     })
 }
 
-pub fn ranking_record(bytes: &[u8], n: usize, m: usize) -> Result<Checked, Fault>
-    requires { Opened bytes.now 2 n m }
-    ensures { Answers ranking bytes.now n m result }
+pub fn ranking_record(opened: OfKind<2>, n: usize, m: usize) -> Result<Checked, Fault>
+    requires { (within variables (pos n) && within rows (pos m)) ≡ true }
+    ensures { Answers ranking opened.entry.bytes.now n m result }
 {
+    let bytes = opened.bytes;
     let end = bytes.len();
     if end != 6 + 4 * m {
         return refused(3, 0);
     }
-    record_faults::multipliers_fault(bytes, 6, 2 * m)?;
+    record_faults::multipliers_fault(InBytes { bytes, place: 6 }, 2 * m)?;
     Ok(Checked {
         kind: 2,
         n,
@@ -91,15 +95,16 @@ pub fn ranking_record(bytes: &[u8], n: usize, m: usize) -> Result<Checked, Fault
     })
 }
 
-pub fn exclusion_record(bytes: &[u8], n: usize, m: usize) -> Result<Checked, Fault>
-    requires { Opened bytes.now 3 n m }
-    ensures { Answers exclusion bytes.now n m result }
+pub fn exclusion_record(opened: OfKind<3>, n: usize, m: usize) -> Result<Checked, Fault>
+    requires { (within variables (pos n) && within rows (pos m)) ≡ true }
+    ensures { Answers exclusion opened.entry.bytes.now n m result }
 {
+    let bytes = opened.bytes;
     let end = bytes.len();
     if end != 8 + 12 * n {
         return refused(3, 0);
     }
-    record_faults::exclusion_fault(bytes, 6, n)?;
+    record_faults::exclusion_fault(InBytes { bytes, place: 6 }, n)?;
     Ok(Checked {
         kind: 3,
         n,
@@ -108,10 +113,11 @@ pub fn exclusion_record(bytes: &[u8], n: usize, m: usize) -> Result<Checked, Fau
     })
 }
 
-pub fn lasso_record(bytes: &[u8], n: usize, m: usize) -> Result<Checked, Fault>
-    requires { Opened bytes.now 4 n m }
-    ensures { Answers lasso bytes.now n m result }
+pub fn lasso_record(opened: OfKind<4>, n: usize, m: usize) -> Result<Checked, Fault>
+    requires { (within variables (pos n) && within rows (pos m)) ≡ true }
+    ensures { Answers lasso opened.entry.bytes.now n m result }
 {
+    let bytes = opened.bytes;
     let end = bytes.len();
     if end < 8 {
         return refused(3, 0);
@@ -123,7 +129,7 @@ pub fn lasso_record(bytes: &[u8], n: usize, m: usize) -> Result<Checked, Fault>
     if end != 22 + 2 * n + ms * (4 * n + 6) + 6 * m {
         return refused(3, 0);
     }
-    record_faults::lasso_fault(bytes, 8, n, m, ms)?;
+    record_faults::lasso_fault(InBytes { bytes, place: 8 }, n, m, ms)?;
     Ok(Checked { kind: 4, n, m, ms })
 }
 
@@ -135,7 +141,7 @@ pub fn check_loop(bytes: &[u8]) -> Result<Checked, Fault>
 {
     frame(bytes)?;
     match endian::u16_at(bytes, 4) {
-        1 => loop_record(bytes),
+        1 => loop_record(OfKind { bytes }),
         _ => refused(4, 4),
     }
 }
@@ -164,9 +170,9 @@ pub fn check_certificate(bytes: &[u8], n: usize, m: usize, wanted: Wanted) -> Re
         return refused(5, 0);
     }
     match kind {
-        2 => ranking_record(bytes, n, m),
-        3 => exclusion_record(bytes, n, m),
-        4 => lasso_record(bytes, n, m),
+        2 => ranking_record(OfKind { bytes }, n, m),
+        3 => exclusion_record(OfKind { bytes }, n, m),
+        4 => lasso_record(OfKind { bytes }, n, m),
         _ => refused(4, 4),
     }
 }

@@ -7,7 +7,8 @@ use Rattle.record.specs.Layouts.{kind_of}
 use Rattle.record.specs.Readers.{loop_reader}
 use Rattle.record.specs.Wants.{wants_of}
 use Rattle.record.proofs.KindLaws.{unwanted_kind}
-use Rattle.record_check.specs.Checks.{certificate_check, Framed}
+use Rattle.record_check.specs.Checks.{certificate_check}
+use Rattle.record_check.specs.Framing.{Framed}
 use Rattle.record_check.proofs.CertificateWays.{certificate_unwanted, certificate_arguments}
 use Rattle.record_check.proofs.FrameWays.{frame_refuses, frame_passes, same_frame}
 use Rattle.record_check.proofs.check_certificate.Goals as goal
@@ -48,40 +49,46 @@ returns-then-not-arguments_fit c =
 wanted : (w : Wanted) (kind number : ℕ) (said : Bool) → said ≡ wants_of w (kind_of kind) → said ≡ true → kind ≡ number → wants_of w (kind_of number) ≡ true
 wanted w kind number said told holds is = ap (λ x. wants_of w (kind_of x)) (sym is) ∙ sym told ∙ holds
 
-pub ranking_record-requires : goal.ranking_record-requires
+pub invariant_of-ranking_record : goal.invariant_of-ranking_record
 unfolding loop_reader
-ranking_record-requires c =
+invariant_of-ranking_record c =
     record {
-      frame = frame_passes (loop_reader c.args.bytes.now []) (sym c.in_ok-frame.was ∙ c.frame.ensures);
+      framed = frame_passes (loop_reader c.args.bytes.now []) (sym c.in_ok-frame.was ∙ c.frame.ensures);
       numbered = sym c.u16_at-kind.ensures.0 ∙ c.in-2.is;
-      arguments = sym c.arguments_fit.ensures ∙ c.if-not-arguments_fit.false;
     }
+
+pub ranking_record-requires : goal.ranking_record-requires
+ranking_record-requires c = sym c.arguments_fit.ensures ∙ c.if-not-arguments_fit.false
 
 pub returns-in-2 : goal.returns-in-2
 unfolding kind_of
 returns-in-2 c = c.ranking_record.ensures _ (wanted _ _ 2 _ c.wants.ensures c.if-not-wants.false c.in-2.is)
 
-pub exclusion_record-requires : goal.exclusion_record-requires
+pub invariant_of-exclusion_record : goal.invariant_of-exclusion_record
 unfolding loop_reader
-exclusion_record-requires c =
+invariant_of-exclusion_record c =
     record {
-      frame = frame_passes (loop_reader c.args.bytes.now []) (sym c.in_ok-frame.was ∙ c.frame.ensures);
+      framed = frame_passes (loop_reader c.args.bytes.now []) (sym c.in_ok-frame.was ∙ c.frame.ensures);
       numbered = sym c.u16_at-kind.ensures.0 ∙ c.in-3.is;
-      arguments = sym c.arguments_fit.ensures ∙ c.if-not-arguments_fit.false;
     }
+
+pub exclusion_record-requires : goal.exclusion_record-requires
+exclusion_record-requires c = sym c.arguments_fit.ensures ∙ c.if-not-arguments_fit.false
 
 pub returns-in-3 : goal.returns-in-3
 unfolding kind_of
 returns-in-3 c = c.exclusion_record.ensures _ (wanted _ _ 3 _ c.wants.ensures c.if-not-wants.false c.in-3.is)
 
-pub lasso_record-requires : goal.lasso_record-requires
+pub invariant_of-lasso_record : goal.invariant_of-lasso_record
 unfolding loop_reader
-lasso_record-requires c =
+invariant_of-lasso_record c =
     record {
-      frame = frame_passes (loop_reader c.args.bytes.now []) (sym c.in_ok-frame.was ∙ c.frame.ensures);
+      framed = frame_passes (loop_reader c.args.bytes.now []) (sym c.in_ok-frame.was ∙ c.frame.ensures);
       numbered = sym c.u16_at-kind.ensures.0 ∙ c.in-4.is;
-      arguments = sym c.arguments_fit.ensures ∙ c.if-not-arguments_fit.false;
     }
+
+pub lasso_record-requires : goal.lasso_record-requires
+lasso_record-requires c = sym c.arguments_fit.ensures ∙ c.if-not-arguments_fit.false
 
 pub returns-in-4 : goal.returns-in-4
 unfolding kind_of

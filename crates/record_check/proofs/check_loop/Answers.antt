@@ -2,7 +2,7 @@
 use Rattle.std.proofs.Common.{◌≡◌, ◌∙◌, sym, arith, rules, Err, []}
 use Rattle.record.specs.Readers.{kind, kind_number, loop_reader}
 use Rattle.record.proofs.KindLaws.{no_loop}
-use Rattle.record_check.specs.Checks.{Framed}
+use Rattle.record_check.specs.Framing.{Framed}
 use Rattle.record_check.proofs.BodyWays.{unwanted}
 use Rattle.record_check.proofs.FrameWays.{frame_refuses, frame_passes}
 use Rattle.record_check.proofs.check_loop.Goals as goal
@@ -19,9 +19,13 @@ framed c = frame_passes (loop_reader c.args.bytes.now []) (sym c.in_ok-frame.was
 pub u16_at-requires : goal.u16_at-requires
 u16_at-requires c = (framed c).head
 
-pub loop_record-requires-clause-framed : goal.loop_record-requires-clause-framed
+pub invariant_of-loop_record : goal.invariant_of-loop_record
 unfolding loop_reader
-loop_record-requires-clause-framed c = frame_passes (loop_reader c.args.bytes.now []) (sym c.in_ok-frame.was ∙ c.frame.ensures)
+invariant_of-loop_record c =
+    record {
+      framed = frame_passes (loop_reader c.args.bytes.now []) (sym c.in_ok-frame.was ∙ c.frame.ensures);
+      numbered = sym c.u16_at.ensures.0 ∙ c.in-1.is;
+    }
 
 pub returns-in_default : goal.returns-in_default
 unfolding kind kind_number loop_reader
