@@ -9,35 +9,51 @@ ghost use Rattle.record_short.specs.Conversions.{shortening_told, shortens, shor
 ghost use Rattle.record_short.specs.Conversions.{lengthening_told, lengthens, lengthened_room};
 ghost use Rattle.record_short.specs.ShortRecords.{triples_in, long_bytes};
 ghost use Rattle.record_short_write.specs.Rooms.{with_triple, with_triples, Lengthens};
-ghost use Rattle.record_short_write.specs.Rooms.{row_weighs, listed, with_row, with_rows, Lists};
+ghost use Rattle.record_short_write.specs.Rooms.{row_weighs, listed, with_row, with_rows};
 
+mod ranking;
+mod short;
+
+use ranking::SoundRanking;
 use record::{Wanted, Writing};
 use refusal::{Fault, refused};
+use short::SoundShort;
 
 // ---- kind 7 to kind 2: zeros for every row, and then the triples, each at its row's places
 
-fn put_triple(bytes: &[u8], m: usize, k: usize, room: &mut [u8])
-    requires sound { Lengthens m bytes.now }
-    requires inside { k < triples_in bytes.now }
-    requires roomy { 6 + 4 * m ≤ length room.old }
-    ensures { room.new ≡ with_triple m bytes.now k room.old }
-{
-    let at = 8 + 6 * k;
-    let place = 6 + 2 * endian::u16_at(bytes, at);
-    let y = endian::u16_at(bytes, at + 2);
-    let z = endian::u16_at(bytes, at + 4);
-    endian::put_u16(room, place, y);
-    endian::put_u16(room, place + 2 * m, z);
-}
+impl SoundShort<'_> {
+    fn put_triple(self, k: usize, room: &mut [u8])
+        requires inside { k < triples_in self.bytes.now }
+        requires roomy { 6 + 4 * self.m ≤ length room.old }
+        ensures { room.new ≡ with_triple self.entry.m self.entry.bytes.now k room.old }
+    {
+        let at = 8 + 6 * k;
+        let place = 6 + 2 * endian::u16_at(self.bytes, at);
+        let y = endian::u16_at(self.bytes, at + 2);
+        let z = endian::u16_at(self.bytes, at + 4);
+        endian::put_u16(room, place, y);
+        endian::put_u16(room, place + 2 * self.m, z);
+    }
 
-fn put_triples(bytes: &[u8], m: usize, room: &mut [u8])
-    requires sound { Lengthens m bytes.now }
-    requires roomy { 6 + 4 * m ≤ length room.old }
-    ensures { room.new ≡ with_triples m bytes.now (triples_in bytes.now) room.old }
-{
-    let count = endian::u16_at(bytes, 6);
-    for k in 0..count {
-        put_triple(bytes, m, k, room);
+    fn put_triples(self, room: &mut [u8])
+        requires { 6 + 4 * self.m ≤ length room.old }
+        ensures { room.new ≡ with_triples self.entry.m self.entry.bytes.now (triples_in self.entry.bytes.now) room.old }
+    {
+        let count = endian::u16_at(self.bytes, 6);
+        for k in 0..count {
+            self.put_triple(k, room);
+        }
+    }
+
+    // The kind 2 record.
+    fn lengthen_into(self, room: &mut [u8])
+        requires { 6 + 4 * self.m ≤ length room.old }
+        ensures { (n : ℕ) → room.new ≡ long_bytes n self.entry.m self.entry.bytes.now ++ drop (6 + 4 * self.entry.m) room.old }
+    {
+        endian::put_u32(room, 0, 2 + 4 * self.m);
+        endian::put_u16(room, 4, 2);
+        room[6..6 + 4 * self.m].fill(0);
+        self.put_triples(room);
     }
 }
 
@@ -47,10 +63,7 @@ pub fn lengthen_into(bytes: &[u8], m: usize, room: &mut [u8])
     requires roomy { 6 + 4 * m ≤ length room.old }
     ensures { (n : ℕ) → room.new ≡ long_bytes n m bytes.now ++ drop (6 + 4 * m) room.old }
 {
-    endian::put_u32(room, 0, 2 + 4 * m);
-    endian::put_u16(room, 4, 2);
-    room[6..6 + 4 * m].fill(0);
-    put_triples(bytes, m, room);
+    SoundShort { bytes, m }.lengthen_into(room);
 }
 
 // How many bytes were written.
@@ -77,61 +90,60 @@ pub fn lengthen(bytes: &[u8], n: usize, m: usize, room: &mut [u8]) -> Writing
 
 // ---- kind 2 to kind 7: the rows that have weight, counted and then written one after another
 
-fn has_weight(bytes: &[u8], m: usize, i: usize) -> bool
-    requires sound { Lists m bytes.now }
-    requires inside { i < m }
-    ensures { result ≡ row_weighs m bytes.now i }
-{
-    endian::u16_at(bytes, 6 + 2 * i) != 0 || endian::u16_at(bytes, 6 + 2 * m + 2 * i) != 0
-}
-
-fn rows_counted(bytes: &[u8], m: usize) -> usize
-    requires { Lists m bytes.now }
-    ensures { result ≡ triples_needed m bytes.now }
-{
-    (0..m).filter(|i| has_weight(bytes, m, *i)).count()
-}
-
-// The triple of row i at a place, if it has weight; where the next one goes.
-fn put_row(bytes: &[u8], m: usize, i: usize, room: &mut [u8], at: usize) -> usize
-    requires sound { Lists m bytes.now }
-    requires inside { i < m }
-    requires roomy { at + 6 * length (listed m bytes.now i) ≤ length room.old }
-    ensures value { result ≡ at + 6 * length (listed m bytes.now i) }
-    ensures room_after { room.new ≡ with_row m bytes.now i at room.old }
-{
-    if !has_weight(bytes, m, i) {
-        return at;
+impl SoundRanking<'_> {
+    fn has_weight(self, i: usize) -> bool
+        requires { i < self.m }
+        ensures { result ≡ row_weighs self.entry.m self.entry.bytes.now i }
+    {
+        endian::u16_at(self.bytes, 6 + 2 * i) != 0
+            || endian::u16_at(self.bytes, 6 + 2 * self.m + 2 * i) != 0
     }
-    let y = endian::u16_at(bytes, 6 + 2 * i);
-    let z = endian::u16_at(bytes, 6 + 2 * m + 2 * i);
-    endian::put_u16(room, at, i);
-    endian::put_u16(room, at + 2, y);
-    endian::put_u16(room, at + 4, z);
-    at + 6
-}
 
-fn put_rows(bytes: &[u8], m: usize, room: &mut [u8])
-    requires sound { Lists m bytes.now }
-    requires roomy { 8 + 6 * triples_needed m bytes.now ≤ length room.old }
-    ensures { room.new ≡ with_rows m bytes.now m room.old }
-{
-    let mut at = 8;
-    for i in 0..m {
-        at = put_row(bytes, m, i, room, at);
+    fn rows_counted(self) -> usize
+        ensures { result ≡ triples_needed self.entry.m self.entry.bytes.now }
+    {
+        (0..self.m).filter(|i| self.has_weight(*i)).count()
     }
-}
 
-fn shorten_into(bytes: &[u8], m: usize, count: usize, room: &mut [u8])
-    requires sound { Lists m bytes.now }
-    requires counted { count ≡ triples_needed m bytes.now }
-    requires roomy { 8 + 6 * count ≤ length room.old }
-    ensures { room.new ≡ short_bytes m bytes.now ++ drop (8 + 6 * count) room.old }
-{
-    endian::put_u32(room, 0, 4 + 6 * count);
-    endian::put_u16(room, 4, 7);
-    endian::put_u16(room, 6, count);
-    put_rows(bytes, m, room);
+    // The triple of row i at a place, if it has weight; where the next one goes.
+    fn put_row(self, i: usize, room: &mut [u8], at: usize) -> usize
+        requires inside { i < self.m }
+        requires roomy { at + 6 * length (listed self.m self.bytes.now i) ≤ length room.old }
+        ensures value { result ≡ at + 6 * length (listed self.entry.m self.entry.bytes.now i) }
+        ensures room_after { room.new ≡ with_row self.entry.m self.entry.bytes.now i at room.old }
+    {
+        if !self.has_weight(i) {
+            return at;
+        }
+        let y = endian::u16_at(self.bytes, 6 + 2 * i);
+        let z = endian::u16_at(self.bytes, 6 + 2 * self.m + 2 * i);
+        endian::put_u16(room, at, i);
+        endian::put_u16(room, at + 2, y);
+        endian::put_u16(room, at + 4, z);
+        at + 6
+    }
+
+    fn put_rows(self, room: &mut [u8])
+        requires { 8 + 6 * triples_needed self.m self.bytes.now ≤ length room.old }
+        ensures { room.new ≡ with_rows self.entry.m self.entry.bytes.now self.entry.m room.old }
+    {
+        let mut at = 8;
+        for i in 0..self.m {
+            at = self.put_row(i, room, at);
+        }
+    }
+
+    // The short record, of as many triples as have been counted.
+    fn shorten_into(self, count: usize, room: &mut [u8])
+        requires counted { count ≡ triples_needed self.m self.bytes.now }
+        requires roomy { 8 + 6 * count ≤ length room.old }
+        ensures { room.new ≡ short_bytes self.entry.m self.entry.bytes.now ++ drop (8 + 6 * count) room.old }
+    {
+        endian::put_u32(room, 0, 4 + 6 * count);
+        endian::put_u16(room, 4, 7);
+        endian::put_u16(room, 6, count);
+        self.put_rows(room);
+    }
 }
 
 // How many bytes were written.
@@ -145,12 +157,13 @@ fn shortened(bytes: &[u8], n: usize, m: usize, room: &mut [u8]) -> Result<usize,
         lasso: false,
     };
     record_check::check_certificate(bytes, n, m, rankings)?;
-    let count = rows_counted(bytes, m);
+    let found = SoundRanking { bytes, m };
+    let count = found.rows_counted();
     let long = 8 + 6 * count;
     if room.len() < long {
         return refused(7, long);
     }
-    shorten_into(bytes, m, count, room);
+    found.shorten_into(count, room);
     Ok(long)
 }
 

@@ -16,10 +16,10 @@ returns-in_err-check_certificate-clause-left c =
     let a = c.args in
     (unsound_long a.bytes.now a.n a.m a.room.now c.in_err-check_certificate.field-0.0 (sym c.in_err-check_certificate.was ∙ c.check_certificate.ensures)).1
 
-pub rows_counted-count-requires : goal.rows_counted-count-requires
-rows_counted-count-requires c =
+pub invariant_of-found : goal.invariant_of-found
+invariant_of-found c =
     let a = c.args in
-    found_lists a.bytes.now a.n a.m a.room.now c.in_ok-check_certificate.field-0 (sym c.in_ok-check_certificate.was ∙ c.check_certificate.ensures)
+    record { lists = found_lists a.bytes.now a.n a.m a.room.now c.in_ok-check_certificate.field-0 (sym c.in_ok-check_certificate.was ∙ c.check_certificate.ensures) }
 
 -- at most 64 rows have weight
 few : (c : goal.After-rows_counted-count) → c.rows_counted-count.result ≤ 64
@@ -47,11 +47,6 @@ returns-then-room-long-clause-left c =
     let a = c.args in
     (short_refused a.bytes.now a.n a.m a.room.now c.in_ok-check_certificate.field-0 (sym c.in_ok-check_certificate.was ∙ c.check_certificate.ensures)
     c.rows_counted-count.result c.rows_counted-count.ensures c.if-room-long.true).1
-
-pub shorten_into-requires-clause-sound : goal.shorten_into-requires-clause-sound
-shorten_into-requires-clause-sound c =
-    let a = c.args in
-    found_lists a.bytes.now a.n a.m a.room.now c.in_ok-check_certificate.field-0 (sym c.in_ok-check_certificate.was ∙ c.check_certificate.ensures)
 
 pub returns-clause-value : goal.returns-clause-value
 returns-clause-value c =

@@ -1,9 +1,9 @@
--- `record_short_write::put_triples` meets its contract.
+-- `record_short_write::SoundShort::put_triples` meets its contract.
 use Rattle.std.proofs.Common.{◌≡◌, ◌∙◌, refl, arith}
 use native.Mathlib.Numerals.{add-one}
 use Rattle.record_short.specs.ShortRecords.{triples_in}
 use Rattle.record_short_write.specs.Rooms.{with_triples}
-use Rattle.record_short_write.proofs.put_triples.Goals as goal
+use Rattle.record_short_write.proofs.short.SoundShort.put_triples.Goals as goal
 
 pub loop-k-init : goal.loop-k-init
 unfolding with_triples

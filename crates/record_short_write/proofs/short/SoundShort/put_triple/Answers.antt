@@ -1,19 +1,19 @@
--- `record_short_write::put_triple` meets its contract.
+-- `record_short_write::SoundShort::put_triple` meets its contract.
 use Rattle.std.proofs.Common.{◌≡◌, ◌∙◌, arith, ◌+◌, ◌*◌, ◌<◌, rules}
 use Rattle.record_short.specs.ShortRecords.{row_in, Y-in, Z-in}
 use Rattle.record_short_write.specs.Rooms.{put_at, with_triple}
-use Rattle.record_short_write.proofs.put_triple.Goals as goal
+use Rattle.record_short_write.proofs.short.SoundShort.put_triple.Goals as goal
 
 pub put_u16-requires : goal.put_u16-requires
 unfolding row_in
 put_u16-requires c =
-    let below : c.u16_at.result < c.args.m = rw c.u16_at.ensures.0 (c.requires.sound.rows_below c.args.k c.requires.inside) in
+    let below : c.u16_at.result < c.args.self.m = rw c.u16_at.ensures.0 (c.args.self.lengthens.rows_below c.args.k c.requires.inside) in
     (omega (arith, below, c.requires.roomy), search rules)
 
 pub put_u16-requires-2 : goal.put_u16-requires-2
 unfolding row_in
 put_u16-requires-2 c =
-    let below : c.u16_at.result < c.args.m = rw c.u16_at.ensures.0 (c.requires.sound.rows_below c.args.k c.requires.inside) in
+    let below : c.u16_at.result < c.args.self.m = rw c.u16_at.ensures.0 (c.args.self.lengthens.rows_below c.args.k c.requires.inside) in
     (omega (arith, below, c.requires.roomy, c.put_u16.auto.room), search rules)
 
 pub returns : goal.returns

@@ -1,7 +1,0 @@
-use Rattle.std.proofs.Common.{◌≡◌, ◌+◌, ◌*◌, length}
-use Rattle.record_short.specs.Conversions.{rows_with_weight}
-use Rattle.record_short_write.specs.Rooms.{with_rows}
-use Rattle.record_short_write.proofs.put_rows.Given as goal
-
-abbrev pub invariant-loop-i : goal.invariant-loop-i
-invariant-loop-i l = record { next : l.at ≡ 8 + 6 * length (rows_with_weight l.m l.bytes l.i); filled : l.room ≡ with_rows l.m l.bytes l.i l.initial.room }
