@@ -74,6 +74,9 @@ module _ (input : List ℕ) where
   unfolding after_first
   nothing_left all = rw (all, drop-length)
 
+-- what the first record takes, by the tests in their order
+pub ruleset first_taken = (taken_short, taken_small, taken_early, taken_whole)
+
 -- ---- the records
 
 pub no_bytes : (input : List ℕ) → length input ≤ 0 → input ≡ []

@@ -1,14 +1,14 @@
--- Where record i of bytes end to end starts: the bytes from there on hold the records from i on. And what a record takes by the length that it
--- states.
+-- Where record i of bytes end to end starts: the bytes from there on hold the records from i on. And the records in front that take one size each.
 use mathlib.Core.Path.{◌≡◌, refl, sym, ap, ◌∙◌}
-use Prim.Native.Nat.{ℕ, zero, suc, ◌+◌, ◌≤◌, ◌<◌}
-use mathlib.Core.List.{List, [], ◌∷◌}
+use Prim.Native.Nat.{ℕ, zero, suc, ◌+◌, ◌-◌, ◌*◌, ◌≤◌, ◌<◌}
+use mathlib.Core.List.{List, [], ◌∷◌, ◌++◌}
 use native.Mathlib.Omega.{arith}
 use lib.Dec.{leb}
-use lib.ListN.{length, get_or, drop, length-drop, drop_of_length-le}
-use lib.Seq.{drop-drop, drop-nil, get_or-drop}
+use lib.ListN.{length, get_or, drop, length-append, length-drop, drop_of_length-le}
+use lib.Seq.{drop_at, drop-drop, drop-nil, get_or-drop}
 use borrow.Author.Tests.{leb-true, leb-false}
 use Rattle.endian.specs.Numbers.{little_at}
+use Rattle.endian.proofs.Laws.{little_at_first}
 use Rattle.refusal.proofs.TestLaws.{either}
 use Rattle.record_parting.specs.Parting.{stated, taken, first_record, after_first, records}
 use Rattle.record_parting.proofs.PartingLaws.{taken_within, taken_whole, records_none, records_more}
@@ -68,13 +68,20 @@ module _ (bytes : List ℕ) where
       ap length (records_more left (omega (arith, length-drop from bytes)))
       ∙ ap (λ rest. suc (length (records rest))) (drop-drop (taken left) from bytes ∙ ap (λ k. drop k bytes) (sym is))
 
--- what a record at a place states, and that it takes as many bytes, if they are there
-stated_at : (bytes : List ℕ) (at : ℕ) → stated (drop at bytes) ≡ little_at 4 bytes at
-unfolding stated little_at
-stated_at bytes at = refl
+-- so many records in front take `size` bytes each
+abbrev pub Counted : List ℕ → ℕ → ℕ → Type 0
+Counted bytes size alike = (alike ≤ alike * size) × (alike * size ≤ length bytes) × (alike + length (records (drop (alike * size) bytes)) ≡ length (records bytes))
 
-pub takes_size : (bytes : List ℕ) (at size : ℕ) → 4 + little_at 4 bytes at ≡ size → 6 ≤ size → at + size ≤ length bytes → taken (drop at bytes) ≡ size
-takes_size bytes at size states six there =
-    let says = stated_at bytes at in
-    let left = length-drop at bytes in
-    taken_whole (drop at bytes) (omega (arith, left)) (omega (arith, says)) (omega (arith, left, says)) ∙ rw says states
+-- one more, where the bytes after them begin with a record that states the size
+pub counted_more : (bytes left first next : List ℕ) (size alike : ℕ) → 6 ≤ size → left ≡ drop (alike * size) bytes → left ≡ first ++ next → length first ≡ size
+    → 4 + little_at 4 first 0 ≡ size → Counted bytes size alike → (next ≡ drop ((alike + 1) * size) bytes) × Counted bytes size (alike + 1)
+unfolding stated
+counted_more bytes left first next size alike six left_is parts long states counted =
+    let at = alike * size in
+    let room : length left ≡ size + length next = ap length parts ∙ length-append first next ∙ ap (λ k. k + length next) long in
+    let bytes_left : length left ≡ length bytes - at = ap length left_is ∙ length-drop at bytes in
+    let same : stated left ≡ little_at 4 first 0 = ap (λ (b : List ℕ). little_at 4 b 0) parts ∙ little_at_first 4 first next 0 (omega arith) in
+    let takes : taken (drop at bytes) ≡ size = ap taken (sym left_is) ∙ taken_whole left (omega arith) (omega arith) (omega arith) ∙ omega arith in
+    let end : (alike + 1) * size ≡ at + size = omega arith in
+    let next_is : next ≡ drop (at + size) bytes = sym (ap (drop size) (sym left_is ∙ parts) ∙ drop_at first next size long) ∙ drop-drop size at bytes in
+    rw end (next_is, (omega arith, omega arith, omega (arith, counted.2, one_record_more bytes at (at + size) (rw takes) (omega arith))))

@@ -7,6 +7,7 @@ ghost use Rattle.std.specs.Iterator.{YieldsFirstRef, item_count};
 ghost use Rattle.record_parting.specs.Parting.{taken, records};
 
 // How many bytes the first record takes.
+#[tactic(auto, using(crate::proofs::PartingLaws::first_taken), unfolding(crate::specs::Parting::stated))]
 pub fn first_end(input: &[u8]) -> usize
     ensures { result ≡ taken input.now }
 {
@@ -45,6 +46,7 @@ impl<'a> Iterator for Records<'a> {
 }
 
 // Where the record ends that starts at a place.
+#[tactic(auto, using(std::proofs::lemmas::Grind::common_steps, crate::proofs::PartingLaws::taken_within))]
 pub fn end_at(bytes: &[u8], from: usize) -> usize
     requires { from ≤ length bytes.now }
     ensures { result ≡ from + taken (drop from bytes.now) }
@@ -53,8 +55,7 @@ pub fn end_at(bytes: &[u8], from: usize) -> usize
 }
 
 // How many records in front take `size` bytes each. Where the next one starts is known before the length of the last is read, so that reading it does
-// not wait (`docs/PERFORMANCE.md`, "A ranking's totals"). No whole record takes fewer than 6 bytes. An
-// iterator over the records would read each length before it knows where the next one starts.
+// not wait (`docs/PERFORMANCE.md`, "A ranking's totals"), as it does where `Records` walks. No whole record takes fewer than 6 bytes.
 fn alike(bytes: &[u8], size: usize) -> usize
     ensures { (result ≤ result * size) × (result * size ≤ length bytes.now)
         × (result + length (records (drop (result * size) bytes.now)) ≡ length (records bytes.now)) }
@@ -62,13 +63,11 @@ fn alike(bytes: &[u8], size: usize) -> usize
     if size < 6 {
         return 0;
     }
-    let mut at = 0;
     let mut alike = 0;
-    while size <= bytes.len() - at {
-        if 4 + endian::u32_at(bytes, at) != size {
+    for record in bytes.chunks_exact(size) {
+        if 4 + endian::u32_at(record, 0) != size {
             return alike;
         }
-        at += size;
         alike += 1;
     }
     alike
