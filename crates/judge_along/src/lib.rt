@@ -1,6 +1,7 @@
 // The sums along a row and at a state, taken straight from the bytes of the records. Each is a running
 // sum (`Total`) that takes one column after another; totals that meet the same entry share its visit.
-// Every total comes with its size, so that a caller may add to it.
+// Every total comes with its size, so that a caller may add to it. A row is known by its place in the
+// bytes: who walks along `judge_sums::Rows` has that at hand.
 #![tactic(auto)]
 
 ghost use Rattle.std.specs.Prelude.{◌+◌, ◌*◌, ◌≤◌, ◌<◌, ◌≡◌, nat_abs, ◌*ℤ◌, length};
@@ -9,6 +10,9 @@ ghost use Rattle.judge_sums.specs.Places.{entry_at, right_at};
 ghost use Rattle.judge_sums.specs.Running.{CanGrow, Adds, SumOf};
 ghost use Rattle.judge_along.specs.AlongRows.{state_term, AlongOf, direction_of, step_of, most_along, most_state, most_rank};
 
+mod state;
+
+pub use state::State;
 use whole::Total;
 
 // A total and one term more: an entry of a row times an entry of U, V or W, each at its place.
@@ -110,24 +114,24 @@ pub fn along(rows: &[u8], row: usize, n: usize, certificate: &[u8], place: usize
 }
 
 // r·x: a rank at a state.
-pub fn rank_at(rank: &[i64], state: &[i64]) -> Total
-    requires { (length rank.now ≤ 16) × (length rank.now ≤ length state.now) × Within 274877906944 rank.now × Within 1048576 state.now }
-    ensures { (result.sum ≡ dot rank.now state.now) × (nat_abs result.sum ≤ length rank.now * most_rank) }
+pub fn rank_at(rank: &[i64], state: State) -> Total
+    requires { (length rank.now ≤ 16) × (length rank.now ≤ length state.entries.now) × Within 274877906944 rank.now }
+    ensures { (result.sum ≡ dot rank.now state.entry.entries.now) × (nat_abs result.sum ≤ length rank.now * most_rank) }
 {
     let mut total = Total::new();
-    for (r, x) in rank.iter().zip(state) {
+    for (r, x) in rank.iter().zip(state.entries) {
         total = total.plus(*r, *x);
     }
     total
 }
 
 // s·x: the entries from a place on at a state.
-pub fn entries_at(bytes: &[u8], place: usize, state: &[i64]) -> Total
-    requires { (place + 2 * length state.now ≤ length bytes.now) × (length state.now < 16384) × Within 1048576 state.now }
-    ensures { SumOf (length state.now) most_state (state_term bytes.now place state.now) result.sum }
+pub fn entries_at(bytes: &[u8], place: usize, state: State) -> Total
+    requires { (place + 2 * length state.entries.now ≤ length bytes.now) × (length state.entries.now < 16384) }
+    ensures { SumOf (length state.entry.entries.now) most_state (state_term bytes.now place state.entry.entries.now) result.sum }
 {
     let mut total = Total::new();
-    for (j, x) in state.iter().enumerate() {
+    for (j, x) in state.entries.iter().enumerate() {
         total = total.plus(endian::i16_at(bytes, place + 2 * j), *x);
     }
     total

@@ -5,12 +5,12 @@ use mathlib.Core.List.{List}
 use lib.ListN.{get_or}
 use native.Mathlib.Nat.{mul-le-mul_right}
 use native.Mathlib.Omega.{arith}
-use lib.IntN.{ℤ, pos, nat_abs, ◌*ℤ◌}
+use lib.IntN.{ℤ, pos, nat_abs}
 use mir.Syntax.{w64}
 use mir.Val.{SFits, of_z, to_z}
 use mir.Facts.{to_z-of_z}
 use Rattle.whole.specs.Sums.{sum}
-use Rattle.whole.proofs.Size.{abs_product, fits_abs}
+use Rattle.whole.proofs.Size.{fits_abs}
 use Rattle.whole.proofs.Tables.{tabulate_at}
 use Rattle.judge_sums.specs.Lists.{multipliers_from, rows_from, entries_from}
 use Rattle.judge_sums.specs.Places.{right_term, ColumnOf, most_entry, entry_at}
@@ -72,10 +72,3 @@ right_small count term s few h = omega (arith, h.small, mul-le-mul_right 1407353
 -- a number on file that is passed on
 pub passed_small : (z : ℤ) (most : ℕ) → most ≤ 2147483648 → nat_abs z ≤ most → nat_abs (to_z w64 (of_z w64 z)) ≤ most
 passed_small z most few small = rw (to_z-of_z (fits_abs {z = z} (omega arith))) small
-
--- a count or multiplier times a number on file
-pub times_small : (k : ℕ) (z : ℤ) → k < 65536 → nat_abs z ≤ 2147483648 → nat_abs (pos k *ℤ z) ≤ 140735340871680
-times_small k z h small = omega (arith, abs_product (pos k) z (below k h) small)
-  where
-    below : (k : ℕ) → k < 65536 → k ≤ 65535
-    below k h = omega arith

@@ -2,15 +2,15 @@
 // negation, and where a condition fails first.
 #![tactic(auto)]
 
-ghost use Rattle.std.specs.Prelude.{◌≡◌, Bool, ℕ, ◌+◌, ◌≤◌, ◌<◌, pos, nat_abs, neg_ℤ, ◌*ℤ◌};
+ghost use Rattle.std.specs.Prelude.{◌≡◌, Bool, ℕ, ◌+◌, ◌≤◌, nat_abs, neg_ℤ, ◌*ℤ◌};
 ghost use Rattle.judge_conditions.specs.Remembered.{first_failing};
 
-// A count or multiplier times a right side or an entry.
-pub fn times(k: usize, z: i64) -> i64
-    requires { (k < 65536) × (nat_abs z ≤ 2147483648) }
-    ensures { (result ≡ pos k *ℤ z) × (nat_abs result ≤ 140735340871680) }
+// A count or multiplier, or minus one, times a right side or an entry.
+pub fn times(factor: i64, z: i64) -> i64
+    requires { (nat_abs factor ≤ 65535) × (nat_abs z ≤ 2147483648) }
+    ensures { (result ≡ factor *ℤ z) × (nat_abs result ≤ 140735340871680) }
 {
-    (k as i64) * z
+    factor * z
 }
 
 // -z

@@ -14,15 +14,17 @@ use Rattle.refusal.specs.Tests.{Told, done, refused, ◌then◌}
 use Rattle.refusal.specs.Places.{Throughout, told_each}
 use Rattle.refusal.proofs.PlaceLaws.{before_all, before_first, told_same, told_none, told_at}
 use Rattle.whole.proofs.Tables.{length_tabulate, tabulate_at}
+use Rattle.whole.specs.Rows.{Row}
 use Rattle.endian.specs.Numbers.{little_at}
 use Rattle.judge_sums.specs.Lists.{row_from, rows_from}
 use Rattle.judge_sums.specs.Places.{right_at, row_place}
 use Rattle.judge_sums.specs.Running.{CanGrow}
+use Rattle.judge_sums.specs.declared.rows.Rows.{Rows}
 use Rattle.judge_along.specs.AlongRows.{direction_of, step_of}
 use Rattle.judge_along.proofs.AlongLists.{direction_dot, step_dot}
 use Rattle.theory.specs.Conditions.{exclusion_told}
 use Rattle.theory.proofs.InOrder.{exclusion_in_order}
-use Rattle.judge_conditions.specs.LoopHeld.{loop_held}
+use Rattle.judge_conditions.specs.LoopHeld.{loop_held, loop_of}
 use Rattle.judge_conditions.specs.Remembered.{first_failing}
 use Rattle.judge_conditions.proofs.RememberedLaws.{told_nothing, told_remembered}
 use Rattle.judge_conditions.proofs.Totals.{grown_fits}
@@ -45,37 +47,43 @@ module _ (rows : List ℕ) (row n : ℕ) (certificate : List ℕ) where
 
 -- ---- all rows
 
-module _ (rows certificate : List ℕ) (start n m : ℕ) where
+module _ (rows : Rows) (certificate : List ℕ) where
   -- the tests of row i
   abbrev pub stays_at : ℕ → Bool
-  stays_at i = stays (exclusion_held certificate n) (row_from rows n (row_place start n i))
+  stays_at i = stays (exclusion_held certificate rows.n) (row_from rows.bytes.now rows.n (row_place rows.start rows.n i))
 
   abbrev pub meets_at : ℕ → Bool
-  meets_at i = meets (exclusion_held certificate n) (row_from rows n (row_place start n i))
+  meets_at i = meets (exclusion_held certificate rows.n) (row_from rows.bytes.now rows.n (row_place rows.start rows.n i))
 
-  -- the tests of the theory are those
-  in_order : exclusion_told (loop_held rows start n m) (exclusion_held certificate n) ≡ (told_each 31 m stays_at then told_each 32 m meets_at)
+  -- what the theory tells
+  abbrev told : Told
+  told = exclusion_told (loop_of rows) (exclusion_held certificate rows.n)
+
+  -- its tests are those
+  in_order : told ≡ (told_each 31 rows.count stays_at then told_each 32 rows.count meets_at)
   unfolding loop_held rows_from
   in_order =
-      exclusion_in_order (loop_held rows start n m) (exclusion_held certificate n)
+      let row = λ (i : ℕ). row_from rows.bytes.now rows.n (row_place rows.start rows.n i) in
+      let none : Row = record { now = []; next = []; right = pos 0 } in
+      exclusion_in_order (loop_of rows) (exclusion_held certificate rows.n)
       ∙ rw length_tabulate
       (ap₂ (λ (s t : Told). s then t)
-      (told_same 31 m _ _ (λ i below. rw (tabulate_at m (λ i. row_from rows n (row_place start n i)) i (record { now = []; next = []; right = pos 0 }) below)))
-      (told_same 32 m _ _ (λ i below. rw (tabulate_at m (λ i. row_from rows n (row_place start n i)) i (record { now = []; next = []; right = pos 0 }) below))))
+      (told_same 31 rows.count _ _ (λ i below. rw (tabulate_at rows.count row i none below)))
+      (told_same 32 rows.count _ _ (λ i below. rw (tabulate_at rows.count row i none below))))
 
   -- a walk that ended at row i by the direction
-  pub direction_told : (i : ℕ) → i < m → stays_at i ≡ false → Throughout i (λ k. stays_at k ≡ true)
-      → exclusion_told (loop_held rows start n m) (exclusion_held certificate n) ≡ refused 31 i
+  pub direction_told : (i : ℕ) → i < rows.count → stays_at i ≡ false → Throughout i (λ k. stays_at k ≡ true) → told ≡ refused 31 i
   unfolding ◌then◌
-  direction_told i below fails before = in_order ∙ rw (told_at 31 m stays_at i (sym (before_first m stays_at i below fails before)) below)
+  direction_told i below fails before =
+      in_order ∙ rw (told_at 31 rows.count stays_at i (sym (before_first rows.count stays_at i below fails before)) below)
 
   -- one that went to the end
-  module _ (all : Throughout m (λ k. stays_at k ≡ true)) (late : Option ℕ) (is : late ≡ first_failing m meets_at) where
-    pub step_told : (place : ℕ) → late ≡ Some place → exclusion_told (loop_held rows start n m) (exclusion_held certificate n) ≡ refused 32 place
+  module _ (all : Throughout rows.count (λ k. stays_at k ≡ true)) (late : Option ℕ) (is : late ≡ first_failing rows.count meets_at) where
+    pub step_told : (place : ℕ) → late ≡ Some place → told ≡ refused 32 place
     unfolding ◌then◌
     step_told place found =
-        in_order ∙ rw (told_none 31 m stays_at (before_all m stays_at all)) (told_remembered m meets_at 32 place (sym found ∙ is))
+        in_order ∙ rw (told_none 31 rows.count stays_at (before_all rows.count stays_at all)) (told_remembered rows.count meets_at 32 place (sym found ∙ is))
 
-    pub none_told : late ≡ None → exclusion_told (loop_held rows start n m) (exclusion_held certificate n) ≡ done
+    pub none_told : late ≡ None → told ≡ done
     unfolding ◌then◌
-    none_told found = in_order ∙ rw (told_none 31 m stays_at (before_all m stays_at all)) (told_nothing m meets_at 32 (sym found ∙ is))
+    none_told found = in_order ∙ rw (told_none 31 rows.count stays_at (before_all rows.count stays_at all)) (told_nothing rows.count meets_at 32 (sym found ∙ is))

@@ -6,11 +6,11 @@
 ghost use Rattle.std.specs.Prelude.{◌≡◌, ◌+◌, ◌*◌, ◌≤◌, length};
 ghost use Rattle.refusal.specs.Faults.{result_of};
 ghost use Rattle.theory.specs.Conditions.{exclusion_told};
-ghost use Rattle.judge_sums.specs.Places.{RowsIn};
 ghost use Rattle.judge_sums.specs.Lists.{row_from};
-ghost use Rattle.judge_conditions.specs.LoopHeld.{loop_held};
+ghost use Rattle.judge_conditions.specs.LoopHeld.{loop_of};
 ghost use Rattle.judge_exclusion.specs.ExclusionHeld.{stays, meets, exclusion_held};
 
+use judge_sums::Rows;
 use refusal::Fault;
 
 // Whether the two conditions hold at one row.
@@ -20,17 +20,15 @@ struct RowHolds {
     step: bool,
 }
 
-// Kind 3 at the row that starts at a place.
+// Kind 3 at the row that starts at a place, which the walk along the rows carries with it.
 fn row_holds(rows: &[u8], row: usize, n: usize, certificate: &[u8]) -> RowHolds
     requires { (row + (4 * n + 4) ≤ length rows.now) × (8 + 12 * n ≤ length certificate.now) × (n ≤ 16) }
     ensures { (result.direction ≡ stays (exclusion_held certificate.now n) (row_from rows.now n row))
         × (result.step ≡ meets (exclusion_held certificate.now n) (row_from rows.now n row)) }
 {
     let sides = judge_along::along(rows, row, n, certificate, 8);
-    let right = judge_conditions::times(
-        endian::u16_at(certificate, 6),
-        endian::i32_at(rows, row + 4 * n),
-    );
+    let q = endian::u16_at(certificate, 6);
+    let right = judge_conditions::times(q as i64, endian::i32_at(rows, row + 4 * n));
     RowHolds {
         direction: sides.direction <= 0,
         step: sides.step <= right,
@@ -38,21 +36,15 @@ fn row_holds(rows: &[u8], row: usize, n: usize, certificate: &[u8]) -> RowHolds
 }
 
 // Kind 3: the first row that fails, by the direction before the step.
-pub fn exclusion(
-    rows: &[u8],
-    start: usize,
-    n: usize,
-    m: usize,
-    certificate: &[u8],
-) -> Result<(), Fault>
-    requires { RowsIn rows.now start n m × (n ≤ 16) × (8 + 12 * n ≤ length certificate.now) }
-    ensures { result ≡ result_of (exclusion_told (loop_held rows.now start n m) (exclusion_held certificate.now n)) tt }
+pub fn exclusion(rows: Rows, certificate: &[u8]) -> Result<(), Fault>
+    requires { (rows.n ≤ 16) × (8 + 12 * rows.n ≤ length certificate.now) }
+    ensures { result ≡ result_of (exclusion_told (loop_of rows.entry) (exclusion_held certificate.now rows.entry.n)) tt }
 {
-    let stride = 4 * n + 4;
-    let mut at = start;
+    let stride = rows.stride();
+    let mut at = rows.start;
     let mut late = None;
-    for i in 0..m {
-        let holds = row_holds(rows, at, n, certificate);
+    for i in 0..rows.count {
+        let holds = row_holds(rows.bytes, at, rows.n, certificate);
         if !holds.direction {
             return refusal::refused(31, i);
         }

@@ -15,7 +15,7 @@ use Rattle.judge_sums.specs.Places.{entry_at, row_place, entry_term, lift_term, 
 use Rattle.judge_sums.specs.Running.{CanGrow, Modest, Adds, SumOf}
 use Rattle.judge_sums.proofs.ColumnLaws.{beside_more}
 use Rattle.judge_sums.proofs.LiftLaws.{grown, sums_modest, lifts_small, entry_more}
-use Rattle.judge_fours.specs.declared.Four.{Four}
+use Rattle.judge_fours.specs.declared.four.Four.{Four}
 use Rattle.judge_fours.specs.Fours.{FourAt, FourAdded, SidedFour, FourFit}
 
 -- ---- sizes
@@ -85,14 +85,14 @@ module _ (multipliers : List ℕ) (place : ℕ) (rows : List ℕ) (start n : ℕ
   columns_four : (i : ℕ) {four : Four} {before after : List ℤ} → SumsOf multipliers place rows start n i before
       → FourAt multipliers (place + 2 * i) four → FourAdded four rows (row_place start n i) n (2 * n) before after
       → SumsOf multipliers place rows start n (i + 1 + 1 + 1 + 1) after
-  columns_four i h reads row =
+  columns_four i {four} h reads row =
       record {
         lift_small =
             lift_next (i + 1 + 1 + 1)
             (lift_next (i + 1 + 1)
-            (lift_next (i + 1) (lift_next i h.lift_small reads.first refl reads.small.0) reads.second (omega arith) reads.small.1)
-            reads.third (omega arith) reads.small.2)
-            reads.fourth (omega arith) reads.small.3;
+            (lift_next (i + 1) (lift_next i h.lift_small reads.first refl four.small.0) reads.second (omega arith) four.small.1)
+            reads.third (omega arith) four.small.2)
+            reads.fourth (omega arith) four.small.3;
         each =
             λ k below.
             let more = row.added k below in

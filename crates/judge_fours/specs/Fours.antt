@@ -1,18 +1,13 @@
 -- Four rows more for the totals under a list of multipliers, term by term. The rows, multipliers and totals are those of `judge_sums`.
 use Rattle.std.specs.Prelude.{ℕ, ◌+◌, ◌*◌, ◌<◌, List, ◌≡◌, ℤ, nat_abs}
 use Rattle.endian.specs.Numbers.{little_at}
-use Rattle.judge_fours.specs.declared.Four.{Four}
+use Rattle.judge_fours.specs.declared.four.Four.{Four}
 use Rattle.judge_sums.specs.Places.{entry_at, Lifts, Grown, Sided}
 
 -- ---- multipliers
 
--- four numbers are multipliers (u16)
-abbrev pub FourSmall : Four → Type 0
-FourSmall four = (four.first < 65536) × (four.second < 65536) × (four.third < 65536) × (four.fourth < 65536)
-
 -- they lie one after another from a place on
 pub record FourAt (bytes : List ℕ) (place : ℕ) (four : Four) : Type 0 where
-  pub small : FourSmall four
   pub first : four.first ≡ little_at 2 bytes place
   pub second : four.second ≡ little_at 2 bytes (place + 2)
   pub third : four.third ≡ little_at 2 bytes (place + 4)

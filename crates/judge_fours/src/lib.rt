@@ -1,41 +1,36 @@
 // The totals of `judge_sums::add_rows`, for sixteen rows or more: where four rows one after another have weight they are added at once, so
 // that a column's totals are fetched and put back once for the four. A row without weight costs the reading of its two multipliers and no
-// more (`docs/PERFORMANCE.md`, "A ranking's totals").
+// more (`docs/PERFORMANCE.md`, "A ranking's totals"). What is done with four rows takes the place of the first of them.
 #![tactic(auto)]
 
 ghost use Rattle.std.specs.Prelude.{◌+◌, ◌*◌, ◌≤◌, ◌<◌, true, ◌≡◌, length, ltb};
 ghost use Rattle.endian.specs.Numbers.{little_at};
-ghost use Rattle.judge_sums.specs.Places.{RestStays, AllModest, AllNone, SumsOf, RowsIn, MultipliersIn, BesideOf, TotalsOf, most_entry, most_right};
+ghost use Rattle.judge_sums.specs.Places.{RestStays, AllModest, AllNone, most_entry, most_right};
 ghost use Rattle.judge_sums.specs.Running.{Modest};
-ghost use Rattle.judge_fours.specs.Fours.{FourAt, FourSmall, LiftsFour, FourAdded, SidedFour, FourFit};
+ghost use Rattle.judge_sums.specs.Terms.{SumsUnder, BesideUnder, TotalsUnder};
+ghost use Rattle.judge_fours.specs.Fours.{FourAt, LiftsFour, FourAdded, SidedFour, FourFit};
 
-use judge_sums::{Beside, Besides};
+mod four;
 
-// Four multipliers, one after another.
-#[derive(Clone, Copy)]
-struct Four {
-    first: usize,
-    second: usize,
-    third: usize,
-    fourth: usize,
-}
+use four::Four;
+use judge_sums::{Beside, Besides, Multipliers, Rows};
 
-// Those that stand from a place on.
-fn four_at(multipliers: &[u8], place: usize) -> Four
-    requires { place + 8 ≤ length multipliers.now }
-    ensures { FourAt multipliers.now place result }
+// Those of row i and the three after it.
+fn four_at(multipliers: Multipliers, i: usize) -> Four
+    requires { i + 4 ≤ multipliers.count }
+    ensures { FourAt multipliers.entry.bytes.now (multipliers.entry.place + 2 * i) result }
 {
     Four {
-        first: endian::u16_at(multipliers, place),
-        second: endian::u16_at(multipliers, place + 2),
-        third: endian::u16_at(multipliers, place + 4),
-        fourth: endian::u16_at(multipliers, place + 6),
+        first: multipliers.at(i),
+        second: multipliers.at(i + 1),
+        third: multipliers.at(i + 2),
+        fourth: multipliers.at(i + 3),
     }
 }
 
 // A total and four terms more: the multipliers times the lifted entries that stand `stride` apart from a place on.
 fn add_entries(sum: i64, four: Four, rows: &[u8], place: usize, stride: usize) -> i64
-    requires { Modest sum × FourSmall four × (place + 3 * stride + 2 ≤ length rows.now) }
+    requires { Modest sum × (place + 3 * stride + 2 ≤ length rows.now) }
     ensures { LiftsFour four rows.now place stride sum result }
 {
     let one = judge_sums::add_lifted(sum, four.first, rows, place);
@@ -47,7 +42,6 @@ fn add_entries(sum: i64, four: Four, rows: &[u8], place: usize, stride: usize) -
 // Four rows more for two lists of totals.
 fn add_four(ys: &mut [i64], zs: &mut [i64], y: Four, z: Four, rows: &[u8], row: usize, n: usize)
     requires { (2 * n ≤ length ys.old) × (2 * n ≤ length zs.old) × AllModest (2 * n) ys.old × AllModest (2 * n) zs.old
-        × FourSmall y × FourSmall z
         × (row + 4 * (4 * n + 4) ≤ length rows.now) × (n < 16384) }
     ensures { FourAdded y rows.now row n (2 * n) ys.old ys.new
         × FourAdded z rows.now row n (2 * n) zs.old zs.new }
@@ -63,7 +57,7 @@ fn add_four(ys: &mut [i64], zs: &mut [i64], y: Four, z: Four, rows: &[u8], row: 
 // The same for what stands beside the columns: the right sides stand `stride` apart from a place on.
 fn beside_four(beside: Beside, four: Four, rows: &[u8], place: usize, stride: usize) -> Beside
     requires { FourFit most_entry beside.lift × FourFit most_right beside.right
-        × FourSmall four × (place + 3 * stride + 4 ≤ length rows.now) }
+        × (place + 3 * stride + 4 ≤ length rows.now) }
     ensures { SidedFour four rows.now place stride
         beside.lift beside.right result.lift result.right }
 {
@@ -75,24 +69,21 @@ fn beside_four(beside: Beside, four: Four, rows: &[u8], place: usize, stride: us
 
 // ---- the rows in turn
 
-// Whether the row has weight whose multipliers stand at two places.
-fn weighs(multipliers: &[u8], y: usize, z: usize) -> bool
-    requires { (y + 2 ≤ length multipliers.now) × (z + 2 ≤ length multipliers.now) }
-    ensures { result ≡ ltb 0 (little_at 2 multipliers.now y + little_at 2 multipliers.now z) }
+// Whether row i has weight.
+fn weighs(y: Multipliers, z: Multipliers, i: usize) -> bool
+    requires { (i < y.count) × (i < z.count) }
+    ensures { result ≡ ltb 0 (little_at 2 y.entry.bytes.now (y.entry.place + 2 * i) + little_at 2 z.entry.bytes.now (z.entry.place + 2 * i)) }
 {
-    0 < endian::u16_at(multipliers, y) + endian::u16_at(multipliers, z)
+    0 < y.at(i) + z.at(i)
 }
 
-// Whether four rows are left, of which the last three have weight too. Nothing is promised of weight: one by one or four at once, rows make the
-// same totals.
-fn four_weigh(multipliers: &[u8], y: usize, z: usize, left: usize) -> bool
-    requires { (y + 2 * left ≤ length multipliers.now) × (z + 2 * left ≤ length multipliers.now) }
-    ensures { result ≡ true → 4 ≤ left }
+// Whether four of `count` rows are left from row i on, of which the last three have weight too. Nothing is promised of weight: one by one or four
+// at once, rows make the same totals.
+fn four_weigh(y: Multipliers, z: Multipliers, i: usize, count: usize) -> bool
+    requires { (i < count) × (count ≤ y.count) × (count ≤ z.count) }
+    ensures { result ≡ true → i + 4 ≤ count }
 {
-    4 <= left
-        && weighs(multipliers, y + 2, z + 2)
-        && weighs(multipliers, y + 4, z + 4)
-        && weighs(multipliers, y + 6, z + 6)
+    4 <= count - i && weighs(y, z, i + 1) && weighs(y, z, i + 2) && weighs(y, z, i + 3)
 }
 
 // Four rows more.
@@ -108,7 +99,6 @@ fn take_four(
 ) -> Besides
     requires { (2 * n ≤ length ys.old) × (2 * n ≤ length zs.old) × AllModest (2 * n) ys.old × AllModest (2 * n) zs.old
         × FourFit most_entry beside.y.lift × FourFit most_right beside.y.right × FourFit most_entry beside.z.lift × FourFit most_right beside.z.right
-        × FourSmall y × FourSmall z
         × (row + 4 * (4 * n + 4) ≤ length rows.now) × (n < 16384) }
     ensures { FourAdded y rows.now row n (2 * n) ys.old ys.new
         × FourAdded z rows.now row n (2 * n) zs.old zs.new
@@ -136,43 +126,36 @@ fn take_rows(
     ys: &mut [i64],
     zs: &mut [i64],
     beside: Besides,
-    rows: &[u8],
-    start: usize,
-    n: usize,
-    multipliers: &[u8],
-    y: usize,
-    z: usize,
+    rows: Rows,
+    y: Multipliers,
+    z: Multipliers,
     i: usize,
-    count: usize,
 ) -> Taken
-    requires { (2 * n ≤ length ys.old) × (2 * n ≤ length zs.old) × RowsIn rows.now start n count
-        × MultipliersIn multipliers.now y count × MultipliersIn multipliers.now z count × (i < count)
-        × TotalsOf multipliers.now y rows.now start n i ys.old beside.y.lift beside.y.right
-        × TotalsOf multipliers.now z rows.now start n i zs.old beside.z.lift beside.z.right }
-    ensures { (0 < result.rows) × (i + result.rows ≤ count)
-        × RestStays (2 * n) ys.old ys.new × RestStays (2 * n) zs.old zs.new
-        × TotalsOf multipliers.now y rows.now start n (i + result.rows) ys.new result.beside.y.lift result.beside.y.right
-        × TotalsOf multipliers.now z rows.now start n (i + result.rows) zs.new result.beside.z.lift result.beside.z.right }
+    requires { (2 * rows.n ≤ length ys.old) × (2 * rows.n ≤ length zs.old) × (rows.count ≤ y.count) × (rows.count ≤ z.count) × (i < rows.count)
+        × TotalsUnder y rows i ys.old beside.y.lift beside.y.right
+        × TotalsUnder z rows i zs.old beside.z.lift beside.z.right }
+    ensures { (0 < result.rows) × (i + result.rows ≤ rows.entry.count)
+        × RestStays (2 * rows.entry.n) ys.old ys.new × RestStays (2 * rows.entry.n) zs.old zs.new
+        × TotalsUnder y.entry rows.entry (i + result.rows) ys.new result.beside.y.lift result.beside.y.right
+        × TotalsUnder z.entry rows.entry (i + result.rows) zs.new result.beside.z.lift result.beside.z.right }
 {
-    let row = start + i * (4 * n + 4);
-    let at_y = y + 2 * i;
-    let at_z = z + 2 * i;
-    let under_y = endian::u16_at(multipliers, at_y);
-    let under_z = endian::u16_at(multipliers, at_z);
+    let row = rows.place_of(i);
+    let under_y = y.at(i);
+    let under_z = z.at(i);
     if under_y + under_z == 0 {
         return Taken { rows: 1, beside };
     }
-    if four_weigh(multipliers, at_y, at_z, count - i) {
-        let four_y = four_at(multipliers, at_y);
-        let four_z = four_at(multipliers, at_z);
+    if four_weigh(y, z, i, rows.count) {
+        let four_y = four_at(y, i);
+        let four_z = four_at(z, i);
         return Taken {
             rows: 4,
-            beside: take_four(ys, zs, beside, four_y, four_z, rows, row, n),
+            beside: take_four(ys, zs, beside, four_y, four_z, rows.bytes, row, rows.n),
         };
     }
     Taken {
         rows: 1,
-        beside: judge_sums::take_row(ys, zs, beside, under_y, under_z, rows, row, n),
+        beside: judge_sums::take_row(ys, zs, beside, under_y, under_z, rows.bytes, row, rows.n),
     }
 }
 
@@ -181,30 +164,26 @@ fn take_rows(
 pub fn add_rows(
     ys: &mut [i64],
     zs: &mut [i64],
-    rows: &[u8],
-    start: usize,
-    n: usize,
-    multipliers: &[u8],
-    y: usize,
-    z: usize,
-    count: usize,
+    rows: Rows,
+    y: Multipliers,
+    z: Multipliers,
 ) -> Besides
-    requires { (2 * n ≤ length ys.old) × (2 * n ≤ length zs.old) × AllNone (2 * n) ys.old × AllNone (2 * n) zs.old
-        × RowsIn rows.now start n count × MultipliersIn multipliers.now y count × MultipliersIn multipliers.now z count }
-    ensures { SumsOf multipliers.now y rows.now start n count ys.new
-        × SumsOf multipliers.now z rows.now start n count zs.new
-        × RestStays (2 * n) ys.old ys.new × RestStays (2 * n) zs.old zs.new
-        × BesideOf multipliers.now y rows.now start n count result.y.lift result.y.right
-        × BesideOf multipliers.now z rows.now start n count result.z.lift result.z.right }
+    requires { (2 * rows.n ≤ length ys.old) × (2 * rows.n ≤ length zs.old) × AllNone (2 * rows.n) ys.old × AllNone (2 * rows.n) zs.old
+        × (rows.count ≤ y.count) × (rows.count ≤ z.count) }
+    ensures { SumsUnder y.entry rows.entry rows.entry.count ys.new
+        × SumsUnder z.entry rows.entry rows.entry.count zs.new
+        × RestStays (2 * rows.entry.n) ys.old ys.new × RestStays (2 * rows.entry.n) zs.old zs.new
+        × BesideUnder y.entry rows.entry rows.entry.count result.y.lift result.y.right
+        × BesideUnder z.entry rows.entry rows.entry.count result.z.lift result.z.right }
 {
-    if count < 16 {
-        return judge_sums::add_rows(ys, zs, rows, start, n, multipliers, y, z, count);
+    if rows.count < 16 {
+        return judge_sums::add_rows(ys, zs, rows, y, z);
     }
     let mut beside = Besides::new();
     // goes on by one row or by four, so it is no `for`
     let mut i = 0;
-    while i < count {
-        let taken = take_rows(ys, zs, beside, rows, start, n, multipliers, y, z, i, count);
+    while i < rows.count {
+        let taken = take_rows(ys, zs, beside, rows, y, z, i);
         beside = taken.beside;
         i += taken.rows;
     }

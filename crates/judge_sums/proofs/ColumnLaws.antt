@@ -7,12 +7,13 @@ use native.Mathlib.Omega.{arith}
 use lib.IntN.{ℤ, pos}
 use lib.ListN.{length}
 use Rattle.endian.specs.Numbers.{little_at}
-use Rattle.judge_sums.specs.Places.{right_at, multiplier_at, row_place, now_term, next_term, right_term, lift_term, RowsIn, Visited, ColumnOf, Sided, BesideOf, most_entry, most_right}
+use Rattle.judge_sums.specs.Places.{right_at, multiplier_at, row_place, now_term, next_term, right_term, lift_term, Visited, ColumnOf, Sided, BesideOf, most_entry, most_right}
 use Rattle.judge_sums.specs.Running.{CanGrow}
+use Rattle.judge_sums.specs.declared.rows.Rows.{Rows}
 use Rattle.judge_sums.proofs.RunningLaws.{sum_none, sum_more, adds_nothing}
 
-pub row_inside : (bytes : List ℕ) (start n count i : ℕ) → RowsIn bytes start n count → i < count → row_place start n (i + 1) ≤ length bytes
-row_inside bytes start n count i rows below = omega (arith, rows.inside, mul-le-mul_right (4 * n + 4) below)
+pub row_inside : (rows : Rows) (i : ℕ) → i < rows.count → row_place rows.start rows.n (i + 1) ≤ length rows.bytes.now
+row_inside rows i below = omega (arith, rows.lie.inside, mul-le-mul_right (4 * rows.n + 4) below)
 
 -- a row without weight
 pub sided_nothing : (multiplier : ℕ) (rows : List ℕ) (place : ℕ) (lift right : ℤ) → multiplier ≡ 0 → Sided multiplier rows place lift right lift right

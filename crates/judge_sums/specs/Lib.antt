@@ -4,3 +4,5 @@ pub mod Lists
 pub mod Places
 -- what a running sum has become
 pub mod Running
+-- the sums' terms, of rows and of multipliers
+pub mod Terms

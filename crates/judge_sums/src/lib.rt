@@ -2,19 +2,25 @@
 // Each is a running sum (`Total`) that takes one row after another; totals that meet the same row
 // share its visit. A ranking's totals of all columns lie side by side in lists, so that a row is
 // added to several at once. The sums know rows and multipliers by their places alone, so they serve
-// loop rows and stem rows and every kind of certificate.
+// loop rows and stem rows and every kind of certificate. Every total comes with its size, so that a
+// caller may add to it.
 //
-// `count` rows over n variables lie in `rows` from `start` on, and as many multipliers in
-// `multipliers` from a place on. Every total comes with its size, so that a caller may add to it.
+// `Rows` and `Multipliers` say where both lie. A walk over them carries the place of a row from one
+// to the next, so what it does with one row takes bytes and places in them.
 #![tactic(auto)]
 
 ghost use Rattle.std.specs.Prelude.{◌+◌, ◌*◌, ◌≤◌, ◌<◌, ◌≡◌, pos, ◌*ℤ◌, length};
-ghost use Rattle.judge_sums.specs.Places.{entry_at, right_at, right_term, Lifts, RowAdded, RestStays, AllGrow, AllNone, SumsOf, RowsIn, MultipliersIn, Visited, ColumnOf, Sided, BesideOf, most_entry, most_right};
+ghost use Rattle.judge_sums.specs.Places.{entry_at, right_at, Lifts, RowAdded, RestStays, AllGrow, AllNone, Visited, Sided, most_entry, most_right};
+ghost use Rattle.judge_sums.specs.Terms.{right_terms, ColumnUnder, SumsUnder, BesideUnder};
 ghost use Rattle.judge_sums.specs.Running.{CanGrow, Adds, SumOf};
 
+mod rows;
+
+pub use rows::{Multipliers, Rows};
 use whole::Total;
 
-// A total and one term more: the multiplier times the entry at a place.
+// A total and one term more: the multiplier times the entry at a place. Each term uses up room to
+// grow, so that a total has it is a clause wherever it is added to, and part of no type.
 fn add_entry(total: Total, multiplier: usize, rows: &[u8], place: usize) -> Total
     requires { CanGrow total.sum × (multiplier < 65536) × (place + 2 ≤ length rows.now) }
     ensures { Adds most_entry (pos multiplier *ℤ entry_at rows.now place) total.sum result.sum }
@@ -65,30 +71,17 @@ impl Column {
 }
 
 // The totals of column j, over A and over A', under one list of multipliers.
-pub fn column_of(
-    rows: &[u8],
-    start: usize,
-    n: usize,
-    j: usize,
-    multipliers: &[u8],
-    place: usize,
-    count: usize,
-) -> Column
-    requires { RowsIn rows.now start n count × (j < n) × MultipliersIn multipliers.now place count }
-    ensures { ColumnOf multipliers.now place rows.now start n j count result.now.sum result.next.sum }
+pub fn column_of(rows: Rows, j: usize, multipliers: Multipliers) -> Column
+    requires { (j < rows.n) × (rows.count ≤ multipliers.count) }
+    ensures { ColumnUnder multipliers.entry rows.entry j rows.entry.count result.now.sum result.next.sum }
 {
-    let stride = 4 * n + 4;
+    let stride = rows.stride();
     let first = 2 * j;
-    let second = 2 * n + 2 * j;
+    let second = 2 * rows.n + 2 * j;
     let mut column = Column::new();
-    let mut at = start;
-    for i in 0..count {
-        column = column.visit(
-            endian::u16_at(multipliers, place + 2 * i),
-            rows,
-            at + first,
-            at + second,
-        );
+    let mut at = rows.start;
+    for i in 0..rows.count {
+        column = column.visit(multipliers.at(i), rows.bytes, at + first, at + second);
         at += stride;
     }
     column
@@ -210,57 +203,39 @@ pub fn take_row(
 pub fn add_rows(
     ys: &mut [i64],
     zs: &mut [i64],
-    rows: &[u8],
-    start: usize,
-    n: usize,
-    multipliers: &[u8],
-    y: usize,
-    z: usize,
-    count: usize,
+    rows: Rows,
+    y: Multipliers,
+    z: Multipliers,
 ) -> Besides
-    requires { (2 * n ≤ length ys.old) × (2 * n ≤ length zs.old) × AllNone (2 * n) ys.old × AllNone (2 * n) zs.old
-        × RowsIn rows.now start n count × MultipliersIn multipliers.now y count × MultipliersIn multipliers.now z count }
-    ensures { SumsOf multipliers.now y rows.now start n count ys.new
-        × SumsOf multipliers.now z rows.now start n count zs.new
-        × RestStays (2 * n) ys.old ys.new × RestStays (2 * n) zs.old zs.new
-        × BesideOf multipliers.now y rows.now start n count result.y.lift result.y.right
-        × BesideOf multipliers.now z rows.now start n count result.z.lift result.z.right }
+    requires { (2 * rows.n ≤ length ys.old) × (2 * rows.n ≤ length zs.old) × AllNone (2 * rows.n) ys.old × AllNone (2 * rows.n) zs.old
+        × (rows.count ≤ y.count) × (rows.count ≤ z.count) }
+    ensures { SumsUnder y.entry rows.entry rows.entry.count ys.new
+        × SumsUnder z.entry rows.entry rows.entry.count zs.new
+        × RestStays (2 * rows.entry.n) ys.old ys.new × RestStays (2 * rows.entry.n) zs.old zs.new
+        × BesideUnder y.entry rows.entry rows.entry.count result.y.lift result.y.right
+        × BesideUnder z.entry rows.entry rows.entry.count result.z.lift result.z.right }
 {
-    let stride = 4 * n + 4;
+    let stride = rows.stride();
     let mut beside = Besides::new();
-    let mut at = start;
-    for i in 0..count {
-        let under_y = endian::u16_at(multipliers, y + 2 * i);
-        let under_z = endian::u16_at(multipliers, z + 2 * i);
-        beside = take_row(ys, zs, beside, under_y, under_z, rows, at, n);
+    let mut at = rows.start;
+    for i in 0..rows.count {
+        beside = take_row(ys, zs, beside, y.at(i), z.at(i), rows.bytes, at, rows.n);
         at += stride;
     }
     beside
 }
 
 // The total of the right sides under one list of multipliers.
-pub fn right_of(
-    rows: &[u8],
-    start: usize,
-    n: usize,
-    multipliers: &[u8],
-    place: usize,
-    count: usize,
-) -> Total
-    requires { RowsIn rows.now start n count × MultipliersIn multipliers.now place count }
-    ensures { SumOf count most_right (right_term multipliers.now place rows.now start n) result.sum }
+pub fn right_of(rows: Rows, multipliers: Multipliers) -> Total
+    requires { rows.count ≤ multipliers.count }
+    ensures { SumOf rows.entry.count most_right (right_terms multipliers.entry rows.entry) result.sum }
 {
-    let stride = 4 * n + 4;
-    let right = 4 * n;
+    let stride = rows.stride();
+    let right = 4 * rows.n;
     let mut total = Total::new();
-    let mut at = start;
-    for i in 0..count {
-        total = add_right(
-            total,
-            endian::u16_at(multipliers, place + 2 * i),
-            rows,
-            at + right,
-        );
+    let mut at = rows.start;
+    for i in 0..rows.count {
+        total = add_right(total, multipliers.at(i), rows.bytes, at + right);
         at += stride;
     }
     total

@@ -1,12 +1,14 @@
 // The totals of all columns under one list of multipliers or under two, with what they come to beside the columns. Each row is visited once,
-// its entries several at a time, and for two lists its entries are read once for both; a multiplier of 0 costs its reading.
+// its entries several at a time, and for two lists its entries are read once for both; a multiplier of 0 costs its reading. As in `judge_sums`,
+// the walk carries the place of a row with it, and what it does with one row takes that.
 #![tactic(auto)]
 
 ghost use Rattle.std.specs.Prelude.{◌+◌, ◌*◌, ◌≤◌, ◌<◌, length};
-ghost use Rattle.judge_sums.specs.Places.{RowAdded, AllGrow, AllNone, RowsIn, MultipliersIn, Sided, TotalsOf};
+ghost use Rattle.judge_sums.specs.Places.{RowAdded, AllGrow, AllNone, Sided};
 ghost use Rattle.judge_sums.specs.Running.{CanGrow};
+ghost use Rattle.judge_sums.specs.Terms.{TotalsUnder};
 
-use judge_sums::{Beside, Besides};
+use judge_sums::{Beside, Besides, Multipliers, Rows};
 
 // One row more for a list of totals.
 fn add_row(sums: &mut [i64], multiplier: usize, rows: &[u8], row: usize, width: usize)
@@ -39,7 +41,8 @@ fn visit(
     beside.visit(multiplier, rows, row + 4 * n)
 }
 
-// The same under two lists. Where one gives the row no weight, only the other takes it.
+// The same under two lists. Where one gives the row no weight, only the other takes it. For a list of lists there would be a loop of two turns at
+// most within the loop over rows, and rows with weight under both would still be taken in one visit: no plainer.
 fn visit_two(
     ys: &mut [i64],
     zs: &mut [i64],
@@ -74,54 +77,38 @@ fn visit_two(
 }
 
 // All rows, into a list of totals that starts as zeros.
-pub fn sum_rows(
-    sums: &mut [i64],
-    rows: &[u8],
-    start: usize,
-    n: usize,
-    multipliers: &[u8],
-    place: usize,
-    count: usize,
-) -> Beside
-    requires { (2 * n ≤ length sums.old) × AllNone (2 * n) sums.old × RowsIn rows.now start n count
-        × MultipliersIn multipliers.now place count }
-    ensures { TotalsOf multipliers.now place rows.now start n count sums.new result.lift result.right }
+pub fn sum_rows(sums: &mut [i64], rows: Rows, multipliers: Multipliers) -> Beside
+    requires { (2 * rows.n ≤ length sums.old) × AllNone (2 * rows.n) sums.old × (rows.count ≤ multipliers.count) }
+    ensures { TotalsUnder multipliers.entry rows.entry rows.entry.count sums.new result.lift result.right }
 {
-    let stride = 4 * n + 4;
+    let stride = rows.stride();
     let mut beside = Beside::new();
-    let mut at = start;
-    for i in 0..count {
-        let multiplier = endian::u16_at(multipliers, place + 2 * i);
-        beside = visit(sums, beside, multiplier, rows, at, n);
+    let mut at = rows.start;
+    for i in 0..rows.count {
+        beside = visit(sums, beside, multipliers.at(i), rows.bytes, at, rows.n);
         at += stride;
     }
     beside
 }
 
-// The same under two lists of multipliers, each into its own list of totals.
+// The same under two lists of multipliers, each into its own list of totals; beside `sum_rows` for the reasons of `visit_two`.
 pub fn sum_two(
     ys: &mut [i64],
     zs: &mut [i64],
-    rows: &[u8],
-    start: usize,
-    n: usize,
-    multipliers: &[u8],
-    y: usize,
-    z: usize,
-    count: usize,
+    rows: Rows,
+    y: Multipliers,
+    z: Multipliers,
 ) -> Besides
-    requires { (2 * n ≤ length ys.old) × (2 * n ≤ length zs.old) × AllNone (2 * n) ys.old × AllNone (2 * n) zs.old
-        × RowsIn rows.now start n count × MultipliersIn multipliers.now y count × MultipliersIn multipliers.now z count }
-    ensures { TotalsOf multipliers.now y rows.now start n count ys.new result.y.lift result.y.right
-        × TotalsOf multipliers.now z rows.now start n count zs.new result.z.lift result.z.right }
+    requires { (2 * rows.n ≤ length ys.old) × (2 * rows.n ≤ length zs.old) × AllNone (2 * rows.n) ys.old × AllNone (2 * rows.n) zs.old
+        × (rows.count ≤ y.count) × (rows.count ≤ z.count) }
+    ensures { TotalsUnder y.entry rows.entry rows.entry.count ys.new result.y.lift result.y.right
+        × TotalsUnder z.entry rows.entry rows.entry.count zs.new result.z.lift result.z.right }
 {
-    let stride = 4 * n + 4;
+    let stride = rows.stride();
     let mut beside = Besides::new();
-    let mut at = start;
-    for i in 0..count {
-        let under_y = endian::u16_at(multipliers, y + 2 * i);
-        let under_z = endian::u16_at(multipliers, z + 2 * i);
-        beside = visit_two(ys, zs, beside, under_y, under_z, rows, at, n);
+    let mut at = rows.start;
+    for i in 0..rows.count {
+        beside = visit_two(ys, zs, beside, y.at(i), z.at(i), rows.bytes, at, rows.n);
         at += stride;
     }
     beside

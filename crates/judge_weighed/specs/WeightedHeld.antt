@@ -2,6 +2,7 @@
 -- in a certificate; and the factors and the limit that they are held to, which come as values.
 use Rattle.std.specs.Prelude.{ℕ, Bool, ◌≡◌, List}
 use Rattle.judge_sums.specs.Lists.{multipliers_from, entries_from, rows_from}
+use Rattle.judge_sums.specs.declared.rows.Rows.{Rows}
 use Rattle.theory.specs.Loops.{A, A'}
 use Rattle.theory.specs.WeightedRows.{Weighted, sum_of, times_v}
 use Rattle.whole.specs.Same.{same_z}
@@ -17,6 +18,10 @@ weighted_held rows start n count certificate held =
       next = held.next;
       limit = held.limit;
     }
+
+-- the same, of rows as they lie
+abbrev pub weighted_of : Rows → List ℕ → Held → Weighted
+weighted_of rows = weighted_held rows.bytes.now rows.start rows.n rows.count
 
 -- the tests of column j: over A, and over A'
 abbrev pub now_at : Weighted → ℕ → Bool

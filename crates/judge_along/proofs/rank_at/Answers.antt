@@ -11,37 +11,37 @@ abbrev term : List ℤ → List ℤ → ℕ → ℤ
 term rank state j = get_or rank j (pos 0) *ℤ get_or state j (pos 0)
 
 pub loop-r-init : goal.loop-r-init
-loop-r-init c = sum_none most_rank (term c.args.rank.now c.args.state.now) c.new-total.ensures
+loop-r-init c = sum_none most_rank (term c.args.rank.now c.args.state.entries.now) c.new-total.ensures
 
 pub plus-total-requires : goal.plus-total-requires
 plus-total-requires c =
     let rank = c.args.rank.now in
-    let state = c.args.state.now in
+    let state = c.args.state.entries.now in
     let j = length c.loop-r.yielded in
     let turn =
     zip_turn rank state c.loop-r.yielded c.into_iter-r-iterator.result c.loop-r.r-iterator c.next.new.self c.next.result (search rules) (search rules) c.loop-r.yielded_by
     (c.in-Some.r, c.in-Some.x) c.in-Some.is c.next.ensures.steps in
     rw (turn.2 (pos 0), turn.3 (pos 0))
-    (may_add (get_or rank j (pos 0)) (get_or state j (pos 0)) 274877906944 1048576 (c.requires.2 j) (c.requires.3 j) (omega arith) c.loop-r.total.sum
+    (may_add (get_or rank j (pos 0)) (get_or state j (pos 0)) 274877906944 1048576 (c.requires.2 j) (c.args.state.small j) (omega arith) c.loop-r.total.sum
     (omega (arith, c.loop-r.invariant.small, turn.0)))
 
 pub loop-r-preserved : goal.loop-r-preserved
 loop-r-preserved c =
     let rank = c.args.rank.now in
-    let state = c.args.state.now in
+    let state = c.args.state.entries.now in
     let j = length c.loop-r.yielded in
     let turn =
     zip_turn rank state c.loop-r.yielded c.into_iter-r-iterator.result c.loop-r.r-iterator c.next.new.self c.next.result (search rules) (search rules) c.loop-r.yielded_by
     (c.in-Some.r, c.in-Some.x) c.in-Some.is c.next.ensures.steps in
     rw length-append
     (sum_more most_rank (term rank state) j c.loop-r.invariant
-    (added (get_or rank j (pos 0)) (get_or state j (pos 0)) 274877906944 1048576 (c.requires.2 j) (c.requires.3 j) (omega arith) refl refl
+    (added (get_or rank j (pos 0)) (get_or state j (pos 0)) 274877906944 1048576 (c.requires.2 j) (c.args.state.small j) (omega arith) refl refl
     (rw (turn.2 (pos 0), turn.3 (pos 0)) at c.plus-total.ensures)))
 
 pub returns : goal.returns
 returns c =
     let rank = c.args.rank.now in
-    let state = c.args.state.now in
+    let state = c.args.state.entries.now in
     let last =
     zip_end rank state c.loop-r.yielded c.into_iter-r-iterator.result c.loop-r.r-iterator c.next.new.self c.next.result (search rules) (search rules) c.loop-r.yielded_by
     c.in-None.is c.next.ensures.steps in

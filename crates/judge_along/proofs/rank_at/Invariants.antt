@@ -5,4 +5,4 @@ use Rattle.judge_sums.specs.Running.{SumOf}
 use Rattle.judge_along.proofs.rank_at.Given as goal
 
 abbrev pub invariant-loop-r : goal.invariant-loop-r
-invariant-loop-r l = SumOf (length l.yielded) most_rank (λ j. get_or l.rank j (pos 0) *ℤ get_or l.state j (pos 0)) l.total.sum
+invariant-loop-r l = SumOf (length l.yielded) most_rank (λ j. get_or l.rank j (pos 0) *ℤ get_or l.state.entries.now j (pos 0)) l.total.sum

@@ -9,7 +9,7 @@ use Rattle.judge_exclusion.proofs.exclusion.Given as goal
 abbrev pub invariant-loop-i : goal.invariant-loop-i
 invariant-loop-i l =
     record {
-      reached : l.at ≡ row_place l.start l.n l.i;
-      stayed : Throughout l.i (λ k. stays_at l.rows l.certificate l.start l.n l.m k ≡ true);
-      remembered : l.late ≡ first_failing l.i (meets_at l.rows l.certificate l.start l.n l.m);
+      reached : l.at ≡ row_place l.rows.start l.rows.n l.i;
+      stayed : Throughout l.i (λ k. stays_at l.rows l.certificate k ≡ true);
+      remembered : l.late ≡ first_failing l.i (meets_at l.rows l.certificate);
     }

@@ -6,13 +6,13 @@ use Rattle.judge_fours.proofs.add_entries.Goals as goal
 
 pub add_lifted-three-requires : goal.add_lifted-three-requires
 add_lifted-three-requires c =
-    let one = passed_size c.args.sum (omega arith) c.requires.1.0 c.add_lifted-one.ensures in
-    let two = passed_size c.add_lifted-one.result (omega (arith, one)) c.requires.1.1 c.add_lifted-two.ensures in
+    let one = passed_size c.args.sum (omega arith) c.args.four.small.0 c.add_lifted-one.ensures in
+    let two = passed_size c.add_lifted-one.result (omega (arith, one)) c.args.four.small.1 c.add_lifted-two.ensures in
     (passed_grows c.add_lifted-two.result (omega (arith, one, two)), omega arith, omega arith)
 
 pub add_lifted-requires : goal.add_lifted-requires
 add_lifted-requires c =
-    let one = passed_size c.args.sum (omega arith) c.requires.1.0 c.add_lifted-one.ensures in
-    let two = passed_size c.add_lifted-one.result (omega (arith, one)) c.requires.1.1 c.add_lifted-two.ensures in
-    let three = passed_size c.add_lifted-two.result (omega (arith, one, two)) c.requires.1.2 c.add_lifted-three.ensures in
+    let one = passed_size c.args.sum (omega arith) c.args.four.small.0 c.add_lifted-one.ensures in
+    let two = passed_size c.add_lifted-one.result (omega (arith, one)) c.args.four.small.1 c.add_lifted-two.ensures in
+    let three = passed_size c.add_lifted-two.result (omega (arith, one, two)) c.args.four.small.2 c.add_lifted-three.ensures in
     (passed_grows c.add_lifted-three.result (omega (arith, one, two, three)), omega arith, omega arith)

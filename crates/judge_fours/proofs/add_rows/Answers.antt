@@ -10,8 +10,8 @@ loop-i-init c =
     let none = c.new-beside.ensures in
     record {
       within = omega arith;
-      rest_y = rest_none (2 * a.n) a.ys.now;
-      rest_z = rest_none (2 * a.n) a.zs.now;
-      under_y = totals_none a.multipliers.now a.y a.rows.now a.start a.n a.ys.now c.requires.2 (none.0, none.1);
-      under_z = totals_none a.multipliers.now a.z a.rows.now a.start a.n a.zs.now c.requires.3 (none.2, none.3);
+      rest_y = rest_none (2 * a.rows.n) a.ys.now;
+      rest_z = rest_none (2 * a.rows.n) a.zs.now;
+      under_y = totals_none a.y.bytes.now a.y.place a.rows.bytes.now a.rows.start a.rows.n a.ys.now c.requires.2 (none.0, none.1);
+      under_z = totals_none a.z.bytes.now a.z.place a.rows.bytes.now a.rows.start a.rows.n a.zs.now c.requires.3 (none.2, none.3);
     }

@@ -8,4 +8,4 @@ visit-requires c =
     let one = sided_size c.visit-one.ensures in
     let two = sided_size c.visit-two.ensures in
     let three = sided_size c.visit-three.ensures in
-    (omega (arith, one.0, two.0, three.0), omega (arith, one.1, two.1, three.1), c.requires.2.3, omega arith)
+    (omega (arith, one.0, two.0, three.0), omega (arith, one.1, two.1, three.1), c.args.four.small.3, omega arith)

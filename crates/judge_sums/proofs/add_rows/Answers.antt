@@ -10,10 +10,10 @@ loop-i-init c =
     let none = c.new-beside.ensures in
     record {
       here = omega arith;
-      rest_y = rest_none (2 * a.n) a.ys.now;
-      rest_z = rest_none (2 * a.n) a.zs.now;
-      under_y = totals_none a.multipliers.now a.y a.rows.now a.start a.n a.ys.now c.requires.2 (none.0, none.1);
-      under_z = totals_none a.multipliers.now a.z a.rows.now a.start a.n a.zs.now c.requires.3 (none.2, none.3);
+      rest_y = rest_none (2 * a.rows.n) a.ys.now;
+      rest_z = rest_none (2 * a.rows.n) a.zs.now;
+      under_y = totals_none a.y.bytes.now a.y.place a.rows.bytes.now a.rows.start a.rows.n a.ys.now c.requires.2 (none.0, none.1);
+      under_z = totals_none a.z.bytes.now a.z.place a.rows.bytes.now a.rows.start a.rows.n a.zs.now c.requires.3 (none.2, none.3);
     }
 
 pub loop-i-preserved : goal.loop-i-preserved
@@ -21,16 +21,12 @@ loop-i-preserved c =
     let a = c.args in
     let kept = c.loop-i.invariant in
     let more = c.take_row-beside.ensures in
-    let read_y = c.u16_at-under_y in
-    let read_z = c.u16_at-under_z in
+    let read_y = c.at in
+    let read_z = c.at-in-loop-i in
     record {
       here = omega arith;
       rest_y = rest_more kept.rest_y more.0;
       rest_z = rest_more kept.rest_z more.1;
-      under_y =
-          totals_more a.multipliers.now a.y a.rows.now a.start a.n c.loop-i.i read_y.result c.loop-i.at kept.under_y read_y.ensures.0 read_y.ensures.1
-          kept.here more.0 more.2;
-      under_z =
-          totals_more a.multipliers.now a.z a.rows.now a.start a.n c.loop-i.i read_z.result c.loop-i.at kept.under_z read_z.ensures.0 read_z.ensures.1
-          kept.here more.1 more.3;
+      under_y = totals_more a.y.bytes.now a.y.place a.rows.bytes.now a.rows.start a.rows.n c.loop-i.i read_y.result c.loop-i.at kept.under_y read_y.ensures.0 read_y.ensures.1 kept.here more.0 more.2;
+      under_z = totals_more a.z.bytes.now a.z.place a.rows.bytes.now a.rows.start a.rows.n c.loop-i.i read_z.result c.loop-i.at kept.under_z read_z.ensures.0 read_z.ensures.1 kept.here more.1 more.3;
     }

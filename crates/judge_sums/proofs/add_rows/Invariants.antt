@@ -1,13 +1,14 @@
 -- before each turn the totals are those of the rows so far, and the next row starts at `at`
 use Rattle.std.proofs.Common.{◌≡◌, ◌*◌}
-use Rattle.judge_sums.specs.Places.{row_place, RestStays, TotalsOf}
+use Rattle.judge_sums.specs.Places.{row_place, RestStays}
+use Rattle.judge_sums.specs.Terms.{TotalsUnder}
 use Rattle.judge_sums.proofs.add_rows.Given as goal
 
 abbrev pub invariant-loop-i : goal.invariant-loop-i
 invariant-loop-i l = record {
-  here : l.at ≡ row_place l.start l.n l.i;
-  rest_y : RestStays (2 * l.n) l.fn.ys l.ys;
-  rest_z : RestStays (2 * l.n) l.fn.zs l.zs;
-  under_y : TotalsOf l.multipliers l.y l.rows l.start l.n l.i l.ys l.beside.y.lift l.beside.y.right;
-  under_z : TotalsOf l.multipliers l.z l.rows l.start l.n l.i l.zs l.beside.z.lift l.beside.z.right;
+  here : l.at ≡ row_place l.rows.start l.rows.n l.i;
+  rest_y : RestStays (2 * l.rows.n) l.fn.ys l.ys;
+  rest_z : RestStays (2 * l.rows.n) l.fn.zs l.zs;
+  under_y : TotalsUnder l.y l.rows l.i l.ys l.beside.y.lift l.beside.y.right;
+  under_z : TotalsUnder l.z l.rows l.i l.zs l.beside.z.lift l.beside.z.right;
 }

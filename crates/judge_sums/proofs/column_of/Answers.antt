@@ -6,12 +6,11 @@ use Rattle.judge_sums.proofs.column_of.Goals as goal
 pub loop-i-init : goal.loop-i-init
 loop-i-init c =
     let a = c.args in
-    (omega arith, column_none a.multipliers.now a.place a.rows.now a.start a.n a.j c.new-column.ensures)
+    (omega arith, column_none a.multipliers.bytes.now a.multipliers.place a.rows.bytes.now a.rows.start a.rows.n a.j c.new-column.ensures)
 
 pub loop-i-preserved : goal.loop-i-preserved
 loop-i-preserved c =
     let a = c.args in
-    let kept = c.loop-i.invariant in (
-      omega arith,
-      column_more a.multipliers.now a.place a.rows.now a.start a.n a.j c.loop-i.i c.u16_at.result c.loop-i.at kept.1 c.u16_at.ensures.0 kept.0 c.visit-column.ensures,
-    )
+    let kept = c.loop-i.invariant in
+    let read = c.at in
+    (omega arith, column_more a.multipliers.bytes.now a.multipliers.place a.rows.bytes.now a.rows.start a.rows.n a.j c.loop-i.i read.result c.loop-i.at kept.1 read.ensures.0 kept.0 c.visit-column.ensures)

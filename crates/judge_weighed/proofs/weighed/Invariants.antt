@@ -2,12 +2,12 @@
 use Rattle.std.proofs.Common.{◌≡◌, true}
 use Rattle.refusal.specs.Places.{Throughout}
 use Rattle.judge_conditions.specs.Remembered.{first_failing}
-use Rattle.judge_weighed.specs.WeightedHeld.{weighted_held, now_at, next_at}
+use Rattle.judge_weighed.specs.WeightedHeld.{weighted_of, now_at, next_at}
 use Rattle.judge_weighed.proofs.weighed.Given as goal
 
 abbrev pub invariant-loop-j : goal.invariant-loop-j
 invariant-loop-j l =
-    let w = weighted_held l.rows l.start l.n l.count l.certificate l.held in
+    let w = weighted_of l.rows l.certificate l.held in
     record {
       held_over : Throughout l.j (λ i. now_at w i ≡ true);
       remembered : l.late ≡ first_failing l.j (next_at w);
