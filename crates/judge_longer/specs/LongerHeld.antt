@@ -2,6 +2,7 @@
 use Rattle.std.specs.Prelude.{ℕ, ◌+◌, ◌*◌, ◌≤◌, ◌<◌, ◌≡◌, List, ℤ, pos, negsuc, nat_abs, ◌-ℤ◌, ◌*ℤ◌, length, get_or, replicate}
 use Rattle.judge_sums.specs.Lists.{entries_from}
 use Rattle.judge_sums.specs.Places.{entry_at, most_entry}
+use Rattle.judge_sums.specs.declared.rows.Rows.{Rows}
 use Rattle.theory.specs.Loops.{Loop, with_row}
 use Rattle.whole.specs.Sums.{scale}
 use Rattle.judge_conditions.specs.LoopHeld.{loop_held}
@@ -11,6 +12,10 @@ unfoldable pub longer_held : List ℕ → ℕ → ℕ → ℕ → List ℕ → �
 longer_held rows start n m certificate s right =
     with_row (loop_held rows start n m)
     (record { now = scale (negsuc 0) (entries_from certificate s n); next = replicate n (pos 0); right = right })
+
+-- that of rows as they lie
+abbrev pub longer_of : Rows → List ℕ → ℕ → ℤ → Loop
+longer_of rows = longer_held rows.bytes.now rows.start rows.n rows.count
 
 -- the first n of a list of totals, each less a multiplier times an entry of s, which lies from a place on; the others stay
 pub record RowTaken (multiplier : ℕ) (certificate : List ℕ) (s n : ℕ) (before after : List ℤ) : Type 0 where

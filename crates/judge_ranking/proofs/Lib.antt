@@ -1,4 +1,3 @@
-pub mod ColumnTests
 pub mod RankedLaws
 pub mod RankingSums
 pub mod RankingTotals

@@ -1,8 +1,8 @@
 -- What the tests of a ranking's conditions tell, and what is shown where all hold: start, fall, and the rank in the front of a list.
-use Rattle.std.specs.Prelude.{Result, ℕ, ◌+◌, ◌<◌, ◌≡◌, Bool, true, cond, List, ◌++◌, eqb, ℤ, pos, ◌+ℤ◌, ◌-ℤ◌, length, get_or, drop}
+use Rattle.std.specs.Prelude.{Result, ℕ, ◌+◌, ◌<◌, ◌≡◌, Bool, cond, List, ◌++◌, eqb, ℤ, pos, ◌+ℤ◌, ◌-ℤ◌, length, get_or, drop}
 use Rattle.std.specs.Int.Signed.{lt_z}
 use Rattle.refusal.specs.Tests.{Told, done, refused, ◌then◌}
-use Rattle.refusal.specs.Places.{Throughout, told_each, told_once}
+use Rattle.refusal.specs.Places.{told_each, told_once}
 use Rattle.refusal.specs.Faults.{result_of}
 use Rattle.refusal.specs.declared.Fault.{Fault}
 use Rattle.theory.specs.Conditions.{ranking_told}
@@ -27,14 +27,6 @@ holds_at number ys ylift zs zlift n j =
     cond (eqb number 21) (same_z (next_in_sums ys ylift n j) (pos 0))
     (cond (eqb number 22) (same_z (now_in_sums ys ylift j) (now_in_sums zs zlift j))
     (same_z (now_in_sums zs zlift j +ℤ next_in_sums zs zlift n j) (pos 0)))
-
--- all three hold at the columns before one
-abbrev pub HoldBefore : ℕ → List ℤ → ℤ → List ℤ → ℤ → ℕ → Type 0
-HoldBefore count ys ylift zs zlift n =
-    Throughout count
-    (λ j. (holds_at 21 ys ylift zs zlift n j ≡ true)
-    × (holds_at 22 ys ylift zs zlift n j ≡ true)
-    × (holds_at 23 ys ylift zs zlift n j ≡ true))
 
 -- what is told of one of them, and of all three
 unfoldable pub column_told : ℕ → List ℤ → ℤ → List ℤ → ℤ → ℕ → Told

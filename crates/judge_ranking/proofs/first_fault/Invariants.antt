@@ -1,6 +1,0 @@
--- The three conditions hold at the columns before j.
-use Rattle.judge_ranking.specs.RankedBy.{HoldBefore}
-use Rattle.judge_ranking.proofs.first_fault.Given as goal
-
-abbrev pub invariant-loop-j : goal.invariant-loop-j
-invariant-loop-j l = HoldBefore l.j l.ys l.ylift l.zs l.zlift l.n
