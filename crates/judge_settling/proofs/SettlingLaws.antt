@@ -13,12 +13,13 @@ use Rattle.theory.specs.Loops.{Loop}
 use Rattle.theory_settling.specs.SettlingConditions.{settling_told}
 use Rattle.theory_settling.specs.Settlings.{Settling, longer, rising}
 use Rattle.theory_settling.proofs.SettlingInOrder.{settling_in_order}
-use Rattle.judge_conditions.specs.LoopHeld.{loop_held}
+use Rattle.judge_sums.specs.declared.rows.Rows.{Rows}
+use Rattle.judge_conditions.specs.LoopHeld.{loop_held, loop_of}
 use Rattle.judge_ranking.specs.RankedBy.{RankingBy}
 use Rattle.judge_ranking.specs.declared.Ranked.{Ranked}
 use Rattle.judge_ranking.proofs.RankedLaws.{shows_nothing}
 use Rattle.judge_weighed.specs.declared.Held.{Held}
-use Rattle.judge_weighed.specs.WeightedHeld.{weighted_held}
+use Rattle.judge_weighed.specs.WeightedHeld.{weighted_held, weighted_of}
 use Rattle.judge_settling.specs.SettlingBy.{SettlingBy}
 use Rattle.judge_settling.specs.SettlingHeld.{settling_held}
 
@@ -27,10 +28,10 @@ abbrev pub rise_held : ℕ → ℕ → Held
 rise_held n k = record { weights = E-place n; v = g_place; now = pos k; next = neg_ℤ (pos k); limit = neg_ℤ (pos k) }
 
 -- the rise is weighted rows of the theory
-pub rise_as : (rows : List ℕ) (start : ℕ) (bytes : List ℕ) (n m k : ℕ) → k ≡ little_at 2 bytes (k_place n)
-    → weighted_held rows start n m bytes (rise_held n k) ≡ rising (loop_held rows start n m) (settling_held bytes n m)
+pub rise_as : (rows : Rows) (bytes : List ℕ) (k : ℕ) → k ≡ little_at 2 bytes (k_place rows.n)
+    → weighted_of rows bytes (rise_held rows.n k) ≡ rising (loop_of rows) (settling_held bytes rows.n rows.count)
 unfolding settling_held weighted_held loop_held
-rise_as rows start bytes n m k read = rw read
+rise_as rows bytes k read = rw read
 
 -- ---- rise, ranking
 

@@ -8,8 +8,8 @@ use Rattle.judge_lasso.proofs.starts.Goals as goal
 
 pub returns : goal.returns
 returns c =
-    let a = c.args in
-    let k = c.u16_at-k in
+    let a = c.args.certificate in
+    let here = c.k_place-k_at.ensures in
     c.weighed.ensures
     ∙ ap (λ w. result_of (weighed_told 41 42 43 a.n w) tt)
-    (ap (weighted_held a.certificate.now 8 a.n a.ms a.certificate.now) c.carrying-held.ensures ∙ start_as a.certificate.now a.n a.m a.ms k.result k.ensures.0)
+    (ap (weighted_held a.bytes.now 8 a.n a.ms a.bytes.now) (rw here at c.carrying-held.ensures) ∙ start_as a c.u16_at-k.result (rw here at c.u16_at-k.ensures.0))

@@ -15,4 +15,4 @@ returns c =
     let k_is : to_z w64 k.result ≡ pos k.result = to_z_pos w64 (omega (arith, k.ensures.1)) in
     let less_is = rw k_is at less.ensures.0 in
     let told = rw (to_z-of_z {w = w64} {z = less.result} (sfits_of less.type_inv), less_is, k_is) at c.weighed.ensures in
-    told ∙ ap (λ w. result_of (weighed_told 61 62 63 a.n w) tt) (rise_as a.rows.now a.start a.certificate.now a.n a.m k.result k.ensures.0)
+    told ∙ ap (λ w. result_of (weighed_told 61 62 63 a.rows.n w) tt) (rise_as a.rows a.certificate.now k.result k.ensures.0)
