@@ -1,54 +1,35 @@
 -- What q divides: a number below 0 by its size, a list by its places, every number where q is 1; and the exclusion that bytes hold, part
 -- by part.
-use mathlib.Core.Path.{◌≡◌, refl, ap, ◌∙◌}
-use Prim.Native.Nat.{ℕ, zero, suc, ◌+◌, ◌*◌, ◌<◌}
-use mathlib.Core.Bool.{true, false, and-false}
+use mathlib.Core.Path.{◌≡◌, refl, ap, ap₂, ◌∙◌}
+use Prim.Native.Nat.{ℕ, zero, suc, ◌+◌, ◌*◌}
+use mathlib.Core.Bool.{Bool, true, false, ◌&&◌}
 use mathlib.Core.List.{List, [], ◌∷◌}
 use native.Mathlib.Nat.{mod-one}
 use native.Mathlib.Omega.{arith}
-use lib.IntN.{ℤ, pos, nat_abs, neg_ℤ, ◌-ℤ◌, +ℤ_idl}
-use lib.Signed.{◌≤ℤ◌, ◌<ℤ◌}
+use lib.IntN.{ℤ, nat_abs}
 use borrow.Author.Tests.{eq-eqb}
+use Rattle.std.specs.List.{list_all, range_with_len}
 use Rattle.endian.specs.Numbers.{little_at}
-use Rattle.refusal.specs.Places.{Throughout}
 use Rattle.whole.specs.Sums.{tabulate}
-use Rattle.whole.proofs.Size.{abs_neg}
-use Rattle.whole.proofs.Solve.{v, ◌⊝◌, solve_le, lt_fact}
 use Rattle.theory.specs.Exclusions.{divides, all_divided, step_is_whole}
 use Rattle.judge_sums.specs.Lists.{rights_from}
 use Rattle.judge_sums.specs.Places.{right_at}
 use Rattle.judge_exclusion.specs.ExclusionHeld.{exclusion_held}
 
--- ---- a number below 0
-
-pub minus_above : (z : ℤ) → z <ℤ pos 0 → pos 0 ≤ℤ (pos 0 -ℤ z)
-minus_above z h = solve_le (v (pos 0)) (v (pos 0) ⊝ v z) (omega (arith, lt_fact (v z) (v (pos 0)) h))
-
-pub minus_size : (z : ℤ) → nat_abs (pos 0 -ℤ z) ≡ nat_abs z
-minus_size z = ap nat_abs (+ℤ_idl (neg_ℤ z)) ∙ abs_neg z
-
 -- ---- a list by its places
 
-module _ (q : ℕ) where
-  table_divided : (n : ℕ) (f : ℕ → ℤ) → Throughout n (λ j. divides q (f j) ≡ true) → all_divided q (tabulate n f) ≡ true
-  unfolding all_divided tabulate
-  table_divided zero f h = refl
-  table_divided (suc n) f h = rw (h 0 (omega arith)) (table_divided n (λ j. f (suc j)) (λ j k. h (suc j) (omega arith)))
+all_in_turn : (q n start : ℕ) (holds : ℕ → Bool) (number : ℕ → ℤ) → ((j : ℕ) → holds (start + j) ≡ divides q (number j))
+    → list_all holds (range_with_len start n) ≡ all_divided q (tabulate n number)
+unfolding all_divided tabulate
+all_in_turn q zero start holds number same = refl
+all_in_turn q (suc n) start holds number same =
+    ap₂ (λ x y. x && y) (ap holds (omega arith) ∙ same 0) (all_in_turn q n (start + 1) holds (λ j. number (suc j)) (λ j. ap holds (omega arith) ∙ same (suc j)))
 
-  table_fails : (n : ℕ) (f : ℕ → ℤ) (j : ℕ) → j < n → divides q (f j) ≡ false → all_divided q (tabulate n f) ≡ false
-  unfolding all_divided tabulate
-  table_fails zero f j below h = absurd (omega arith)
-  table_fails (suc n) f zero below h = rw h
-  table_fails (suc n) f (suc j) below h = rw (table_fails n (λ i. f (suc i)) j (omega arith) h) (and-false (divides q (f 0)))
-
-  module _ (bytes : List ℕ) (place count : ℕ) where
-    pub each_divided : Throughout count (λ j. divides q (right_at bytes (place + 4 * j)) ≡ true) → all_divided q (rights_from bytes place count) ≡ true
-    unfolding rights_from
-    each_divided h = table_divided count (λ j. right_at bytes (place + 4 * j)) h
-
-    pub one_fails : (j : ℕ) → j < count → divides q (right_at bytes (place + 4 * j)) ≡ false → all_divided q (rights_from bytes place count) ≡ false
-    unfolding rights_from
-    one_fails j below h = table_fails count (λ j. right_at bytes (place + 4 * j)) j below h
+pub rights_in_turn : (q : ℕ) (bytes : List ℕ) (place count : ℕ) → list_all (λ j. divides q (right_at bytes (place + 4 * j))) (range_with_len 0 count) ≡ all_divided q (rights_from bytes place count)
+unfolding rights_from
+rights_in_turn q bytes place count =
+    let holds = λ (j : ℕ). divides q (right_at bytes (place + 4 * j)) in
+    all_in_turn q count 0 holds (λ j. right_at bytes (place + 4 * j)) (λ j. ap holds (omega arith))
 
 -- ---- where q is 1
 

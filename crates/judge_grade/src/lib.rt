@@ -9,14 +9,12 @@ ghost use Rattle.judge_sums.specs.Lists.{rights_from};
 ghost use Rattle.judge_exclusion.specs.ExclusionHeld.{exclusion_held};
 
 // Whether q divides a number.
+#[tactic(auto, unfolding(theory::specs::Exclusions::divides))]
 fn divided(z: i64, q: usize) -> bool
-    requires { (nat_abs z ≤ 2147483648) × (0 < q) }
+    requires { 0 < q }
     ensures { result ≡ divides q z }
 {
-    if z < 0 {
-        return (-z) as usize % q == 0;
-    }
-    z as usize % q == 0
+    z.unsigned_abs() as usize % q == 0
 }
 
 // Whether q divides each of `count` numbers from a place on. The first that it doesn't ends the walk.
@@ -24,15 +22,11 @@ fn all_divided(certificate: &[u8], place: usize, count: usize, q: usize) -> bool
     requires { (place + 4 * count ≤ length certificate.now) × (place < 65536) × (count ≤ 16) × (0 < q) }
     ensures { result ≡ all_divided q (rights_from certificate.now place count) }
 {
-    for j in 0..count {
-        if !divided(endian::i32_at(certificate, place + 4 * j), q) {
-            return false;
-        }
-    }
-    true
+    (0..count).all(|j| divided(endian::i32_at(certificate, place + 4 * j), q))
 }
 
 // Whether the step that an exclusion gives is between whole numbers. Where q is 1 it is, and nothing is divided.
+#[tactic(auto, using(crate::proofs::DividedLaws::whole_by_one, crate::proofs::DividedLaws::not_whole, crate::proofs::DividedLaws::whole_by_V))]
 pub fn whole_step(certificate: &[u8], n: usize) -> bool
     requires { (8 + 12 * n ≤ length certificate.now) × (n ≤ 16) × (0 < little_at 2 certificate.now 6) }
     ensures { result ≡ step_is_whole (exclusion_held certificate.now n) }
