@@ -7,6 +7,9 @@ use native.Mathlib.Omega.{arith}
 use lib.IntN.{ℤ, pos, negsuc, neg_ℤ, ◌*ℤ◌}
 use lib.ListN.{get_or}
 use lib.Signed.{le_z}
+use mir.Syntax.{w64}
+use mir.Val.{of_z, to_z}
+use mir.Facts.{to_z-of_z}
 use Rattle.whole.specs.Same.{same_z}
 use Rattle.whole.proofs.Solve.{v, neg, ◌⊗◌, solve}
 use Rattle.whole.proofs.Tables.{tabulate_at}
@@ -15,10 +18,15 @@ use Rattle.theory.specs.WeightedRows.{Weighted, sum_of, times_v}
 use Rattle.theory_paths.specs.PathConditions.{every, weighs}
 use Rattle.theory_paths.proofs.PathLaws.{every_same}
 use Rattle.judge_sums.specs.Lists.{rights_from}
-use Rattle.judge_sums.specs.Places.{right_at, TotalsOf}
+use Rattle.judge_sums.specs.Places.{right_at, most_right}
+use Rattle.judge_sums.specs.Terms.{TotalsUnder}
+use Rattle.judge_sums.specs.declared.rows.Rows.{Rows}
 use Rattle.judge_sums.proofs.LiftLaws.{column_in}
-use Rattle.judge_conditions.proofs.Totals.{now_is, next_is, right_is}
+use Rattle.judge_conditions.proofs.Totals.{can_grow, grown_fits, now_is, next_is, right_is}
+use Rattle.judge_ranking.proofs.RankingTotals.{lift_passed}
 use Rattle.judge_paths.specs.PathByPlaces.{weighted_by, column_held, totals_held}
+use Rattle.judge_paths.specs.PathHeld.{weighted_of}
+use Rattle.judge_paths.specs.declared.path.Held.{Held}
 
 -- ---- tests at every place
 
@@ -51,26 +59,40 @@ right_at_lem : (bytes : List ℕ) (place n j : ℕ) → j < n → get_or (rights
 unfolding rights_from
 right_at_lem bytes place n j below = tabulate_at n (λ j. right_at bytes (place + 4 * j)) j (pos 0) below
 
-module _ (rows : List ℕ) (row n m : ℕ) (certificate : List ℕ) (place r next : ℕ) (limit : ℤ) (few : m ≤ 64) (sums : List ℤ) (lift right : ℤ)
-    (totals : TotalsOf certificate place rows row n m sums lift right) where
+module _ (rows : Rows) (held : Held) (few : rows.count ≤ 64) (sums : List ℤ) (lift right : ℤ) (totals : TotalsUnder held.weights rows rows.count sums lift right) where
   abbrev w : Weighted
-  w = weighted_by rows row n m certificate place r next limit
+  w = weighted_of rows held
 
-  column_is : (j : ℕ) → j < n
-      → column_held sums lift n certificate r next j
-      ≡ (same_z (sum_of w (A j)) (times_v w w.now j) && same_z (sum_of w (A' j)) (times_v w w.next j))
+  abbrev bytes : List ℕ
+  bytes = held.weights.bytes.now
+
+  abbrev place : ℕ
+  place = held.weights.place
+
+  abbrev lift_passed_on : ℤ
+  lift_passed_on = to_z w64 (of_z w64 lift)
+
+  small : rows.count ≤ 65
+  small = omega (arith, few)
+
+  abbrev held_at : ℕ → Bool
+  held_at = column_held sums lift_passed_on rows.n bytes held.r held.next
+
+  column_is : (j : ℕ) → j < rows.n → held_at j ≡ (same_z (sum_of w (A j)) (times_v w w.now j) && same_z (sum_of w (A' j)) (times_v w w.next j))
   unfolding column_held weighted_by
   column_is j below =
-      let under = column_in certificate place rows row n m j sums lift totals.columns totals.beside.lift_sum below in
-      let small : m ≤ 65 = omega arith in
-      let entry = right_at_lem certificate r n j below in
+      let under = column_in bytes place rows.bytes.now rows.start rows.n rows.count j sums lift_passed_on totals.columns (lift_passed rows.count _ small totals.beside.lift_sum) below in
+      let entry = right_at_lem bytes held.r rows.n j below in
       ap₂ (λ x y. x && y)
-      (ap₂ same_z (now_is certificate place rows row n j m _ _ small under below) (minus_one (right_at certificate (r + 4 * j)) ∙ ap (λ z. negsuc 0 *ℤ z) (sym entry)))
-      (ap₂ same_z (next_is certificate place rows row n j m _ _ small under below) (ap (λ z. pos next *ℤ z) (sym entry)))
+      (ap₂ same_z (now_is bytes place rows.bytes.now rows.start rows.n j rows.count _ _ small under below)
+      (minus_one (right_at bytes (held.r + 4 * j)) ∙ ap (λ z. negsuc 0 *ℤ z) (sym entry)))
+      (ap₂ same_z (next_is bytes place rows.bytes.now rows.start rows.n j rows.count _ _ small under below) (ap (λ z. pos held.next *ℤ z) (sym entry)))
 
-  right_total : right ≡ sum_of w b
+  right_total : to_z w64 (of_z w64 right) ≡ sum_of w b
   unfolding weighted_by
-  right_total = right_is certificate place rows row n m right totals.beside.right_sum
+  right_total =
+      to_z-of_z (grown_fits (can_grow rows.count most_right _ right small (omega arith) totals.beside.right_sum))
+      ∙ right_is bytes place rows.bytes.now rows.start rows.n rows.count right totals.beside.right_sum
 
   -- ---- all of it
 
@@ -80,9 +102,9 @@ module _ (rows : List ℕ) (row n m : ℕ) (certificate : List ℕ) (place r nex
   abbrev over_A' : ℕ → Bool
   over_A' j = same_z (sum_of w (A' j)) (times_v w w.next j)
 
-  columns_are : every n (column_held sums lift n certificate r next) ≡ (every n over_A && every n over_A')
-  columns_are = every_same n (column_held sums lift n certificate r next) (λ j. over_A j && over_A' j) column_is ∙ every_both n over_A over_A'
+  columns_are : every rows.n held_at ≡ (every rows.n over_A && every rows.n over_A')
+  columns_are = every_same rows.n held_at (λ j. over_A j && over_A' j) column_is ∙ every_both rows.n over_A over_A'
 
-  pub weighs_is : totals_held sums lift right n certificate r next limit ≡ weighs n w
+  pub weighs_is : totals_held sums lift_passed_on (to_z w64 (of_z w64 right)) rows.n bytes held.r held.next held.limit ≡ weighs rows.n w
   unfolding weighs weighted_by
-  weighs_is = rw (right_total, columns_are) (sym (last_first (every n over_A) (every n over_A') (le_z (sum_of w b) limit)))
+  weighs_is = rw (right_total, columns_are) (sym (last_first (every rows.n over_A) (every rows.n over_A') (le_z (sum_of w b) held.limit)))

@@ -56,14 +56,6 @@ path_told_by rows row n m certificate place first component j =
     (refused 52 j))
     (refused 51 j)
 
--- what lies in the bytes: the rows, m multipliers from a place on, and r
-pub record WeightsIn (rows : List ℕ) (row n m : ℕ) (certificate : List ℕ) (place r : ℕ) : Type 0 where
-  pub rows_there : RowsIn rows row n m
-  pub few : m ≤ 64
-  pub narrow : n ≤ 16
-  pub list_there : place + 2 * m ≤ length certificate
-  pub r_there : r + 4 * n ≤ length certificate
-
 -- the rows of a path, its lists, and the components up to its own
 pub record PathIn (rows : List ℕ) (row n m : ℕ) (certificate : List ℕ) (place first component : ℕ) : Type 0 where
   pub rows_there : RowsIn rows row n m

@@ -2,9 +2,8 @@
 // 51, 52 or 53, each a law of weighted rows over the path's own rows.
 #![tactic(auto)]
 
-ghost use Rattle.std.specs.Prelude.{◌+◌, ◌*◌, ◌≤◌, ◌<◌, ◌≡◌, ◌&&◌, pos, nat_abs, length};
-ghost use Rattle.judge_sums.specs.Places.{AllModest};
-ghost use Rattle.judge_sums.specs.Running.{CanGrow, Modest};
+ghost use Rattle.std.specs.Prelude.{◌+◌, ◌*◌, ◌≤◌, ◌<◌, ◌≡◌, ◌&&◌};
+ghost use Rattle.judge_sums.specs.Running.{CanGrow};
 ghost use Rattle.refusal.specs.Faults.{result_of};
 ghost use Rattle.refusal.specs.Tests.{done, first as first_failing};
 ghost use Rattle.record_paths.specs.PathCertificates.{counted, sound_lexicographic};
@@ -12,231 +11,192 @@ ghost use Rattle.record_paths.specs.PathFields.{bytes_alone};
 ghost use Rattle.record_paths.specs.PathLoops.{sound_paths};
 ghost use Rattle.theory_paths.specs.PathConditions.{every, weighs as weighs-so, lexicographic_told};
 ghost use Rattle.verdict_paths.specs.PathContents.{branches_in, lexicographic_in};
-ghost use Rattle.judge_paths.specs.PathByPlaces.{weighted_by, column_held, totals_held, bounded_by, falling_by, staying_by, path_told_by, WeightsIn, PathIn};
+ghost use Rattle.judge_paths.specs.PathHeld.{weighted_of, column_meets, totals_meet, bounded_of, falling_of, staying_of, told_of};
 
-use judge_sums::Beside;
+mod path;
+
+use judge_ranking::Lifted;
+use judge_sums::{Multipliers, Rows};
+use path::{Held, Path};
 use refusal::Fault;
 
-// Whether column j's totals, out of lifted ones, are -r and next times r.
-fn column_holds(
-    sums: &[i64],
-    lift: i64,
-    n: usize,
-    certificate: &[u8],
-    r: usize,
-    next: usize,
-    j: usize,
-) -> bool
-    requires { (2 * n ≤ length sums.now) × (n ≤ 16) × (j < n) × AllModest (2 * n) sums.now × Modest lift
-        × (r + 4 * n ≤ length certificate.now) × (next < 65536) }
-    ensures { result ≡ column_held sums.now lift n certificate.now r next j }
-{
-    let entry = endian::i32_at(certificate, r + 4 * j);
-    let over = judge_ranking::unlifted(sums, j, lift) == judge_conditions::minus(entry);
-    let then = judge_ranking::unlifted(sums, n + j, lift) == judge_conditions::times(next, entry);
-    over & then
-}
-
-// The same of all columns.
-fn columns_hold(
-    sums: &[i64],
-    lift: i64,
-    n: usize,
-    certificate: &[u8],
-    r: usize,
-    next: usize,
-) -> bool
-    requires { (2 * n ≤ length sums.now) × (n ≤ 16) × AllModest (2 * n) sums.now × Modest lift
-        × (r + 4 * n ≤ length certificate.now) × (next < 65536) }
-    ensures { result ≡ every n (column_held sums.now lift n certificate.now r next) }
-{
-    (0..n).all(|j| column_holds(sums, lift, n, certificate, r, next, j))
-}
-
-// What weighted rows are held to: their multipliers stand at `list`, r at `r`; over A they are to weigh -r, over A' next times r, and their
-// right sides no more than the limit.
-#[derive(Clone, Copy)]
-struct Held {
-    list: usize,
-    r: usize,
-    next: usize,
-    limit: i64,
-}
-
-// Whether totals are what they are held to.
-fn meets(sums: &[i64], beside: Beside, n: usize, certificate: &[u8], held: Held) -> bool
-    requires { (2 * n ≤ length sums.now) × (n ≤ 16) × AllModest (2 * n) sums.now × Modest beside.lift × CanGrow beside.right
-        × (held.r + 4 * n ≤ length certificate.now) × (held.next < 65536) × (nat_abs held.limit ≤ 2147483648) }
-    ensures { result ≡ totals_held sums.now beside.lift beside.right n certificate.now held.r held.next
-        held.limit }
-{
-    beside.right <= held.limit && columns_hold(sums, beside.lift, n, certificate, held.r, held.next)
-}
-
-// Where the rows of a path lie: m over n variables, from `row` on.
-#[derive(Clone, Copy)]
-struct Path {
-    row: usize,
-    n: usize,
-    m: usize,
-}
-
-impl Path {
-    // Whether the rows weigh as they are held to.
-    fn weighs(self, rows: &[u8], certificate: &[u8], held: Held) -> bool
-        requires { WeightsIn rows.now self.row self.n self.m certificate.now held.list held.r × (held.next < 65536)
-            × (nat_abs held.limit ≤ 2147483648) }
-        ensures { result ≡ weighs-so self.n (weighted_by rows.now self.row self.n self.m certificate.now held.list held.r held.next
-            held.limit) }
+impl<'c> Held<'c> {
+    // Whether column j's totals are -r and next times r.
+    fn column_holds(self, sums: Lifted, j: usize) -> bool
+        requires { (j < sums.n) × (sums.n ≤ self.n) }
+        ensures { result ≡ column_meets sums.entry self.entry j }
     {
-        let mut sums = [0i64; 32];
-        let beside = judge_totals::sum_rows(
-            &mut sums,
-            rows,
-            self.row,
-            self.n,
-            certificate,
-            held.list,
-            self.m,
-        );
-        meets(&sums, beside, self.n, certificate, held)
+        let entry = endian::i32_at(self.weights.bytes, self.r + 4 * j);
+        let over = sums.now(j) == judge_conditions::minus(entry);
+        let then = sums.next(j) == judge_conditions::times(self.next as i64, entry);
+        over & then
     }
 
-    // The same under two lists, in one visit of each row.
-    fn weigh_two(self, rows: &[u8], certificate: &[u8], first: Held, second: Held) -> (bool, bool)
-        requires { WeightsIn rows.now self.row self.n self.m certificate.now first.list first.r × (first.next < 65536)
-            × (nat_abs first.limit ≤ 2147483648)
-            × WeightsIn rows.now self.row self.n self.m certificate.now second.list second.r × (second.next < 65536)
-            × (nat_abs second.limit ≤ 2147483648) }
-        ensures { (result.0 ≡ weighs-so self.n (weighted_by rows.now self.row self.n self.m certificate.now first.list first.r first.next
-            first.limit))
-            × (result.1 ≡ weighs-so self.n (weighted_by rows.now self.row self.n self.m certificate.now second.list second.r second.next
-            second.limit)) }
+    // The same of all columns.
+    fn columns_hold(self, sums: Lifted) -> bool
+        requires { sums.n ≤ self.n }
+        ensures { result ≡ every sums.entry.n (column_meets sums.entry self.entry) }
+    {
+        (0..sums.n).all(|j| self.column_holds(sums, j))
+    }
+
+    // Whether totals are what they are held to.
+    fn met_by(self, sums: Lifted, right: i64) -> bool
+        requires { (sums.n ≤ self.n) × CanGrow right }
+        ensures { result ≡ totals_meet sums.entry right self.entry }
+    {
+        right <= self.limit && self.columns_hold(sums)
+    }
+}
+
+impl<'l, 'c> Path<'l, 'c> {
+    // Whether the rows weigh as they are held to.
+    fn weighs(self, held: Held) -> bool
+        requires { (self.rows.count ≤ held.weights.count) × (self.rows.n ≤ held.n) }
+        ensures { result ≡ weighs-so self.entry.rows.n (weighted_of self.entry.rows held.entry) }
+    {
+        let mut sums = [0i64; 32];
+        let beside = judge_totals::sum_rows(&mut sums, self.rows, held.weights);
+        let lifted = Lifted {
+            sums: &sums,
+            n: self.rows.n,
+            lift: beside.lift,
+        };
+        held.met_by(lifted, beside.right)
+    }
+
+    // The same under two lists, in one visit of each row, which is faster than one after the other (`docs/PERFORMANCE.md`, "Branches and
+    // settlings"). One function for one list and for two would take an array of `Held` whose length is a parameter, which may not hold
+    // references, and would have to choose between `sum_rows` and `sum_two` all the same. Put in place where it is called it reads no struct
+    // from memory.
+    #[inline(always)]
+    fn weigh_two(self, first: Held, second: Held) -> (bool, bool)
+        requires { (self.rows.count ≤ first.weights.count) × (self.rows.n ≤ first.n)
+            × (self.rows.count ≤ second.weights.count) × (self.rows.n ≤ second.n) }
+        ensures { (result.0 ≡ weighs-so self.entry.rows.n (weighted_of self.entry.rows first.entry))
+            × (result.1 ≡ weighs-so self.entry.rows.n (weighted_of self.entry.rows second.entry)) }
     {
         let mut ys = [0i64; 32];
         let mut zs = [0i64; 32];
         let beside = judge_totals::sum_two(
             &mut ys,
             &mut zs,
-            rows,
-            self.row,
-            self.n,
-            certificate,
-            first.list,
-            second.list,
-            self.m,
+            self.rows,
+            first.weights,
+            second.weights,
         );
+        let y = Lifted {
+            sums: &ys,
+            n: self.rows.n,
+            lift: beside.y.lift,
+        };
+        let z = Lifted {
+            sums: &zs,
+            n: self.rows.n,
+            lift: beside.z.lift,
+        };
         (
-            meets(&ys, beside.y, self.n, certificate, first),
-            meets(&zs, beside.z, self.n, certificate, second),
+            first.met_by(y, beside.y.right),
+            second.met_by(z, beside.z.right),
         )
     }
 
-    // The path's own component. Bounded: it is δ0 at least before a step. Ranking: it falls by δ or more.
-    fn own_holds(self, rows: &[u8], certificate: &[u8], place: usize, own: usize) -> (bool, bool)
-        requires { WeightsIn rows.now self.row self.n self.m certificate.now place own
-            × WeightsIn rows.now self.row self.n self.m certificate.now (place + 2 * self.m) own
-            × (own + (4 * self.n + 8) ≤ length certificate.now) }
-        ensures { (result.0 ≡ weighs-so self.n (bounded_by rows.now self.row self.n self.m certificate.now place own))
-            × (result.1 ≡ weighs-so self.n (falling_by rows.now self.row self.n self.m certificate.now (place + 2 * self.m) own)) }
+    // List k of the path.
+    fn list(self, k: usize) -> Multipliers<'c>
+        requires { k < 2 + self.component }
+        ensures { (result.bytes.now ≡ self.entry.certificate.now) × (result.place ≡ self.entry.place + 2 * self.entry.rows.count * k)
+            × (result.count ≡ self.entry.rows.count) }
     {
-        let start = endian::i32_at(certificate, own + 4 * self.n);
-        let fall = endian::i32_at(certificate, own + 4 * self.n + 4);
+        Multipliers {
+            bytes: self.certificate,
+            place: self.place + 2 * self.rows.count * k,
+            count: self.rows.count,
+        }
+    }
+
+    // The path's own component. Bounded: it is δ0 at least before a step. Ranking: it falls by δ or more.
+    fn own_holds(self) -> (bool, bool)
+        ensures { (result.0 ≡ weighs-so self.entry.rows.n (bounded_of self.entry))
+            × (result.1 ≡ weighs-so self.entry.rows.n (falling_of self.entry)) }
+    {
+        let n = self.rows.n;
+        let own = self.first + self.component * (4 * n + 8);
+        let start = endian::i32_at(self.certificate, own + 4 * n);
+        let fall = endian::i32_at(self.certificate, own + 4 * n + 4);
         let bounded = Held {
-            list: place,
+            weights: self.list(0),
             r: own,
+            n,
             next: 0,
             limit: judge_conditions::minus(start),
         };
         let ranking = Held {
-            list: place + 2 * self.m,
+            weights: self.list(1),
             r: own,
+            n,
             next: 1,
             limit: judge_conditions::minus(fall),
         };
-        self.weigh_two(rows, certificate, bounded, ranking)
+        self.weigh_two(bounded, ranking)
     }
 
-    // What keeps the earlier component i from rising. The lists of the earlier components lie from `place` on.
-    fn staying(self, place: usize, first: usize, i: usize) -> Held
-        requires { (self.n ≤ 16) × (self.m ≤ 64) × (i < 8) × (place + 2 * self.m * i < 18446744073709551616)
-            × (first + i * (4 * self.n + 8) < 18446744073709551616) }
-        ensures { (result.list ≡ place + 2 * self.m * i) × (result.r ≡ first + i * (4 * self.n + 8)) × (result.next ≡ 1) × (result.limit ≡ pos 0) }
+    // What keeps the earlier component i from rising.
+    fn staying(self, i: usize) -> Held<'c>
+        requires { i < self.component }
+        ensures { (weighted_of self.entry.rows result ≡ staying_of self.entry i)
+            × (result.weights.count ≡ self.entry.rows.count) × (result.n ≡ self.entry.rows.n) }
     {
         Held {
-            list: place + 2 * self.m * i,
-            r: first + i * (4 * self.n + 8),
+            weights: self.list(2 + i),
+            r: self.first + i * (4 * self.rows.n + 8),
+            n: self.rows.n,
             next: 1,
             limit: 0,
         }
     }
 
     // Unaffecting, for the earlier component i: it does not rise.
-    fn stays(self, rows: &[u8], certificate: &[u8], place: usize, first: usize, i: usize) -> bool
-        requires { WeightsIn rows.now self.row self.n self.m certificate.now (place + 2 * self.m * i) (first + i * (4 * self.n + 8)) × (i < 8) }
-        ensures { result ≡ weighs-so self.n (staying_by rows.now self.row self.n self.m certificate.now place first i) }
+    fn stays(self, i: usize) -> bool
+        requires { i < self.component }
+        ensures { result ≡ weighs-so self.entry.rows.n (staying_of self.entry i) }
     {
-        self.weighs(rows, certificate, self.staying(place, first, i))
+        self.weighs(self.staying(i))
     }
 
-    // The same of two, i and the next.
-    fn stay_two(self, rows: &[u8], certificate: &[u8], place: usize, first: usize, i: usize) -> bool
-        requires { WeightsIn rows.now self.row self.n self.m certificate.now (place + 2 * self.m * i) (first + i * (4 * self.n + 8))
-            × WeightsIn rows.now self.row self.n self.m certificate.now (place + 2 * self.m * (i + 1)) (first + (i + 1) * (4 * self.n + 8))
-            × (i + 1 < 8) }
-        ensures { result ≡ (weighs-so self.n (staying_by rows.now self.row self.n self.m certificate.now place first i)
-            && weighs-so self.n (staying_by rows.now self.row self.n self.m certificate.now place first (i + 1))) }
+    // The same of two, i and the next, in one visit of each row; beside `stays` for the reasons of `weigh_two` beside `weighs`.
+    fn stay_two(self, i: usize) -> bool
+        requires { i + 1 < self.component }
+        ensures { result ≡ (weighs-so self.entry.rows.n (staying_of self.entry i)
+            && weighs-so self.entry.rows.n (staying_of self.entry (i + 1))) }
     {
-        let here = self.staying(place, first, i);
-        let next = self.staying(place, first, i + 1);
-        let (this, other) = self.weigh_two(rows, certificate, here, next);
+        let (this, other) = self.weigh_two(self.staying(i), self.staying(i + 1));
         this & other
     }
 
-    // The same of all earlier components, two at a time. The lists of the path lie from `place` on.
-    fn none_rises(
-        self,
-        rows: &[u8],
-        certificate: &[u8],
-        place: usize,
-        first: usize,
-        earlier: usize,
-    ) -> bool
-        requires { PathIn rows.now self.row self.n self.m certificate.now place first earlier }
-        ensures { result ≡ every earlier (λ i. weighs-so self.n (staying_by rows.now self.row self.n self.m certificate.now
-            (place + 4 * self.m) first i)) }
+    // The same of all earlier components, two at a time.
+    fn none_rises(self) -> bool
+        ensures { result ≡ every self.entry.component (λ i. weighs-so self.entry.rows.n (staying_of self.entry i)) }
     {
-        let lists = place + 4 * self.m;
-        for k in 0..earlier / 2 {
-            if !self.stay_two(rows, certificate, lists, first, 2 * k) {
+        for k in 0..self.component / 2 {
+            if !self.stay_two(2 * k) {
                 return false;
             }
         }
-        earlier % 2 == 0 || self.stays(rows, certificate, lists, first, earlier - 1)
+        self.component % 2 == 0 || self.stays(self.component - 1)
     }
 
     // What is told of the path, which is path j: 51, 52 or 53, whichever condition fails first.
-    fn told(
-        self,
-        rows: &[u8],
-        certificate: &[u8],
-        place: usize,
-        first: usize,
-        component: usize,
-        j: usize,
-    ) -> Result<(), Fault>
-        requires { PathIn rows.now self.row self.n self.m certificate.now place first component }
-        ensures { result ≡ result_of (path_told_by rows.now self.row self.n self.m certificate.now place first component j) tt }
+    fn told(self, j: usize) -> Result<(), Fault>
+        ensures { result ≡ result_of (told_of self.entry j) tt }
     {
-        let own = first + component * (4 * self.n + 8);
-        let (bounded, ranking) = self.own_holds(rows, certificate, place, own);
+        let (bounded, ranking) = self.own_holds();
         if !bounded {
             return refusal::refused(51, j);
         }
         if !ranking {
             return refusal::refused(52, j);
         }
-        if !self.none_rises(rows, certificate, place, first, component) {
+        if !self.none_rises() {
             return refusal::refused(53, j);
         }
         Ok(())
@@ -259,8 +219,20 @@ pub fn paths_fault(loopbytes: &[u8], certificate: &[u8]) -> Result<(), Fault>
     for j in 0..paths {
         let m = endian::u16_at(loopbytes, 10 + 2 * j);
         let component = endian::u16_at(certificate, 8 + 2 * j);
-        let path = Path { row, n, m };
-        path.told(loopbytes, certificate, place, first, component, j)?;
+        let rows = Rows {
+            bytes: loopbytes,
+            start: row,
+            n,
+            count: m,
+        };
+        let path = Path {
+            rows,
+            certificate,
+            place,
+            first,
+            component,
+        };
+        path.told(j)?;
         row += m * (4 * n + 4);
         place += 2 * (m * (2 + component));
     }

@@ -1,5 +1,5 @@
 -- `judge_paths::paths_fault` meets its contract: each turn tells path j, and goes on to where the next one lies.
-use Rattle.std.proofs.Common.{ℕ, ◌≡◌, ◌+◌, ◌*◌, ◌<◌, List, sym, ap, ◌∙◌, rules, arith, below_more}
+use Rattle.std.proofs.Common.{ℕ, ◌≡◌, ◌+◌, ◌*◌, ◌<◌, List, sym, ap, ◌∙◌, arith, below_more}
 use Rattle.std.proofs.lemmas.Result.{err_from_is_err_and}
 use Rattle.endian.specs.Numbers.{little_at}
 use Rattle.refusal.specs.Tests.{done, first}
@@ -57,11 +57,21 @@ u16_at-component-requires c =
     let a = c.args in
     omega (arith, lists_after a.loopbytes.now a.certificate.now (lexicographic_sound _ _ c.requires.1))
 
-pub told-requires : goal.told-requires
-told-requires c =
+pub invariant_of-rows : goal.invariant_of-rows
+invariant_of-rows c =
     let kept = c.loop-j.invariant in
-    (read _ _ c.requires.0 c.requires.1 c.loop-j-test.true c.u16_at-n.ensures.0 c.u16_at-paths.ensures.0 c.u16_at-m.ensures.0 c.u16_at-component.ensures.0
-    kept.row_here kept.place_here).there
+    let path =
+    read _ _ c.requires.0 c.requires.1 c.loop-j-test.true c.u16_at-n.ensures.0 c.u16_at-paths.ensures.0 c.u16_at-m.ensures.0 c.u16_at-component.ensures.0
+    kept.row_here kept.place_here in
+    record { lie = path.there.rows_there }
+
+pub invariant_of-path : goal.invariant_of-path
+invariant_of-path c =
+    let kept = c.loop-j.invariant in
+    let path =
+    read _ _ c.requires.0 c.requires.1 c.loop-j-test.true c.u16_at-n.ensures.0 c.u16_at-paths.ensures.0 c.u16_at-m.ensures.0 c.u16_at-component.ensures.0
+    kept.row_here kept.place_here in
+    record { lies = path.there }
 
 pub returns-in_err-told : goal.returns-in_err-told
 unfolding paths_in
@@ -74,22 +84,6 @@ returns-in_err-told c =
     let fails = sym path.told ∙ told_refused _ _ c.in_err-told.field-0.0 c.in_err-told.ensures in
     let given = err_from_is_err_and c.from_residual.result c.from_residual.ensures.1 in
     rw (given.1, given.2) (refuses _ (one_fails a.loopbytes.now a.certificate.now c.loop-j.j _ _ (omega arith) kept.before fails))
-
-pub overflow_add-row-in-loop-j-2 : goal.overflow_add-row-in-loop-j-2
-overflow_add-row-in-loop-j-2 c =
-    let kept = c.loop-j.invariant in
-    let path =
-    (read _ _ c.requires.0 c.requires.1 c.loop-j-test.true c.u16_at-n.ensures.0 c.u16_at-paths.ensures.0 c.u16_at-m.ensures.0 c.u16_at-component.ensures.0
-    kept.row_here kept.place_here).there in
-    search (rules, path.rows_there.inside)
-
-pub overflow_add-place-in-loop-j-2 : goal.overflow_add-place-in-loop-j-2
-overflow_add-place-in-loop-j-2 c =
-    let kept = c.loop-j.invariant in
-    let path =
-    (read _ _ c.requires.0 c.requires.1 c.loop-j-test.true c.u16_at-n.ensures.0 c.u16_at-paths.ensures.0 c.u16_at-m.ensures.0 c.u16_at-component.ensures.0
-    kept.row_here kept.place_here).there in
-    search (rules, path.lists_there)
 
 pub loop-j-preserved : goal.loop-j-preserved
 unfolding variables_in paths_in rows_in component_in

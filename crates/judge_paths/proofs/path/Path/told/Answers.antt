@@ -1,18 +1,8 @@
 -- `judge_paths::Path::told` meets its contract: the conditions are asked in their order.
-use Rattle.std.proofs.Common.{sym, ◌∙◌, refl, arith}
+use Rattle.std.proofs.Common.{sym, ◌∙◌, refl}
 use Rattle.refusal.specs.Faults.{result_of}
 use Rattle.judge_paths.specs.PathByPlaces.{path_told_by}
-use Rattle.judge_paths.proofs.PathPlaces.{component_in, bounded_in, falling_in}
-use Rattle.judge_paths.proofs.Path.told.Goals as goal
-
-pub own_holds-bounded-requires : goal.own_holds-bounded-requires
-own_holds-bounded-requires c =
-    let a = c.args in
-    let path = a.self in (
-      bounded_in a.rows.now path.row path.n path.m a.certificate.now a.place a.first a.component c.requires,
-      falling_in a.rows.now path.row path.n path.m a.certificate.now a.place a.first a.component c.requires,
-      component_in a.rows.now path.row path.n path.m a.certificate.now a.place a.first a.component c.requires a.component (omega arith),
-    )
+use Rattle.judge_paths.proofs.path.Path.told.Goals as goal
 
 pub returns-then-not-bounded : goal.returns-then-not-bounded
 unfolding result_of path_told_by
