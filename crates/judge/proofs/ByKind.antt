@@ -2,12 +2,12 @@
 use Rattle.std.specs.Prelude.{Result, Ok, Err}
 use mathlib.Core.Path.{◌≡◌, ◌∙◌}
 use Prim.Native.Nat.{ℕ}
-use mathlib.Core.Bool.{Bool, true}
+use mathlib.Core.Bool.{true}
 use mathlib.Core.List.{List}
 use lib.IntN.{ℤ}
 use Rattle.endian.specs.Numbers.{little_at}
 use Rattle.record.specs.declared.Wanted.{Wanted}
-use Rattle.record.specs.Layouts.{Kind, lasso, kind_of}
+use Rattle.record.specs.Layouts.{Kind, kind_of}
 use Rattle.record.specs.Readers.{sound}
 use Rattle.record.specs.Wants.{wants_of}
 use Rattle.refusal.specs.declared.Fault.{Fault}
@@ -20,6 +20,10 @@ use Rattle.verdict.specs.Stages.{refusal_of}
 use Rattle.judge.specs.SoundPairs.{LoopSound, CertificateSound, LassoSound}
 use Rattle.judge.proofs.Entered.{certificate_refused, sound_by, lasso_sound_by}
 use Rattle.judge.proofs.JudgingWays.{refused_so, at_certificate}
+
+-- the kinds of the base
+abbrev pub all_kinds : Wanted
+all_kinds = record { ranking = true; exclusion = true; lasso = true }
 
 module _ (loopbytes : List ℕ) (n m : ℕ) (l : LoopSound loopbytes n m) (certificate : List ℕ) (k : Kind) (answer : Result Checked Fault)
     (is : Answers k certificate n m answer) (wanted : Wanted) (known : wants_of wanted k ≡ true) where
@@ -46,5 +50,5 @@ pub body_refused : (loopbytes : List ℕ) (n m : ℕ) (l : LoopSound loopbytes n
 unfolding judge_of
 body_refused loopbytes n m l certificate k answer is known f so lent =
     let j = judge_of loopbytes certificate lent in
-    let told = body_told loopbytes n m l certificate k answer is (record { ranking = true; exclusion = true; lasso = true }) known f so in
+    let told = body_told loopbytes n m l certificate k answer is all_kinds known f so in
     refused_so j lent 2 f.number f.place (at_certificate j l.told _ _ told)

@@ -6,7 +6,7 @@ use mathlib.Core.Bool.{Bool}
 use mathlib.Core.List.{List, []}
 use Rattle.endian.specs.Numbers.{little_at}
 use Rattle.record.specs.Layouts.{Kind, kind_of}
-use Rattle.record.specs.Readers.{Reader, kind, kind_number, counts_read, sound, loop_reader}
+use Rattle.record.specs.Readers.{Reader, kind, kind_number, sound, loop_reader}
 use Rattle.refusal.specs.declared.Fault.{Fault}
 use Rattle.refusal.specs.Tests.{refused, first}
 use Rattle.record_check.specs.Checks.{said, checks}

@@ -18,7 +18,8 @@ use Rattle.refusal.specs.Faults.{result_of}
 use Rattle.refusal.specs.Tests.{refused, first}
 use Rattle.refusal.proofs.FaultLaws.{told_refused}
 use Rattle.refusal.proofs.TestLaws.{first_told}
-use Rattle.record_check.specs.Checks.{certificate_check, Framed, Opened}
+use Rattle.record_check.specs.Checks.{certificate_check}
+use Rattle.record_check.specs.Framing.{Framed}
 use Rattle.record_check.proofs.BodyWays.{unwanted}
 use Rattle.record_check.proofs.CertificateWays.{certificate_unwanted}
 use Rattle.record_check.proofs.FrameWays.{stopped, right, frame_passes}
@@ -55,15 +56,12 @@ unwanted_loop bytes f other =
 
 -- ---- a certificate for a sound loop, past its frame
 
+-- the loop's counts are in range
+pub counts_fit : (loopbytes : List ℕ) (n m : ℕ) → LoopSound loopbytes n m → (within variables (pos n) && within rows (pos m)) ≡ true
+unfolding is_known
+counts_fit loopbytes n m l = rw (l.n_is, l.m_is) (counts_in_range (loop_record loopbytes) (loop_says loopbytes n m l) (rw (loop_kind loopbytes n m l)))
+
 module _ (loopbytes : List ℕ) (n m : ℕ) (l : LoopSound loopbytes n m) (certificate : List ℕ) (f : Framed certificate) where
-  -- the loop's counts are in range
-  counted : (within variables (pos n) && within rows (pos m)) ≡ true
-  unfolding is_known
-  counted = rw (l.n_is, l.m_is) (counts_in_range (loop_record loopbytes) (loop_says loopbytes n m l) (rw (loop_kind loopbytes n m l)))
-
-  pub opened : (number : ℕ) → little_at 2 certificate 4 ≡ number → Opened certificate number n m
-  opened number numbered = record { frame = f; numbered = numbered; arguments = counted }
-
   -- a kind that is not wanted
   pub unwanted_told : (wanted : Wanted) → wants_of wanted (kind_of (little_at 2 certificate 4)) ≡ false
       → first sound (certificate_record (wants_of wanted) (loop_record loopbytes) certificate) ≡ refused 4 4

@@ -1,6 +1,7 @@
 -- What the judge's functions are told of the records: that they are sound, with the loop's counts and the certificate's kind; and what
 -- they tell of them.
 use Rattle.std.specs.Prelude.{ℕ, Bool, cond, ◌≡◌, List, ℤ, Result, Ok, Err}
+pub use Rattle.judge.specs.LoopSound.{LoopSound, first_row}
 use Rattle.record.specs.Layouts.{Kind, loop, ranking, exclusion, lasso, other, is_lasso}
 use Rattle.record.specs.Readers.{kind, counts_read, sound}
 use Rattle.refusal.specs.Tests.{done, first}
@@ -18,17 +19,8 @@ use Rattle.verdict.specs.declared.Verdict.{Verdict}
 use Rattle.judge_ranking.specs.RankedBy.{RankedBy}
 use Rattle.judge_ranking.specs.declared.Ranked.{Ranked}
 
--- where the first row of a loop record starts
-abbrev pub first_row : ℕ
-first_row = 10
-
--- a sound loop record over n variables with m rows
-pub record LoopSound (bytes : List ℕ) (n m : ℕ) : Type 0 where
-  pub told : first sound (loop_record bytes) ≡ done
-  pub n_is : n ≡ (counts_read (loop_record bytes)).n
-  pub m_is : m ≡ (counts_read (loop_record bytes)).m
-
--- a sound certificate record for it, of a kind among those that are wanted
+-- a sound certificate record for it, of a kind among those that are wanted. This and the next are clauses and no types as `SoundLoop` is: each function
+-- that takes them has a kind and a set of kinds of its own
 pub record CertificateSound (wants : Kind → Bool) (loopbytes bytes : List ℕ) (k : Kind) : Type 0 where
   pub told : first sound (certificate_record wants (loop_record loopbytes) bytes) ≡ done
   pub kind_is : kind (certificate_record wants (loop_record loopbytes) bytes) ≡ k

@@ -6,17 +6,18 @@ ghost use Rattle.std.specs.Prelude.{◌≡◌, ℤ, List, length, ◌+◌, ◌*�
 ghost use Rattle.endian.specs.Numbers.{little_at};
 ghost use Rattle.judge_exclusion.specs.ExclusionHeld.{exclusion_held};
 ghost use Rattle.record.specs.Layouts.{ranking, exclusion};
-ghost use Rattle.record_check.specs.Checks.{Opened};
 ghost use Rattle.verdict.specs.Judging.{judges, rank_after, judge_of, certificates_judged};
 ghost use Rattle.verdict.specs.Outcomes.{grade_of};
 ghost use Rattle.verdict.specs.Stages.{shows, refusal_of};
-ghost use Rattle.judge.specs.SoundPairs.{LoopSound, CertificateSound, LassoSound, Judged};
+ghost use Rattle.judge.specs.SoundPairs.{CertificateSound, LassoSound, Judged};
 
+mod sound_loop;
+
+use judge_lasso::LassoRecord;
 use judge_ranking::Ranked;
+use record_check::OfKind;
+pub use sound_loop::SoundLoop;
 use verdict::{Grade, Outcome, Verdict};
-
-// Where the first row of a loop record starts.
-pub const FIRST_ROW: usize = 10;
 
 // What is accepted, with what it shows.
 pub fn accepted(outcome: Outcome) -> Verdict
@@ -30,7 +31,7 @@ pub fn accepted(outcome: Outcome) -> Verdict
     }
 }
 
-// A refusal: the record that it speaks of, its number and place.
+// A refusal: the record that it speaks of, its number and place. A verdict has these as fields, so it is no `refusal::refused`.
 pub fn refused(about: usize, number: usize, place: usize) -> Verdict
     ensures { result ≡ refusal_of about number place }
 {
@@ -45,54 +46,47 @@ pub fn refused(about: usize, number: usize, place: usize) -> Verdict
 // ---- of sound records
 
 // Kind 2: the rank list, and then the conditions.
-pub fn ranking_sound(
-    loopbytes: &[u8],
-    n: usize,
-    m: usize,
-    certificate: &[u8],
-    rank: &mut [i64],
-) -> Verdict
-    requires { LoopSound loopbytes.now n m × CertificateSound certificates_judged loopbytes.now certificate.now ranking }
-    ensures { Judged loopbytes.now certificate.now rank.old result rank.new }
+pub fn ranking_sound(looped: SoundLoop, certificate: &[u8], rank: &mut [i64]) -> Verdict
+    requires { CertificateSound certificates_judged looped.bytes.now certificate.now ranking }
+    ensures { Judged looped.entry.bytes.now certificate.now rank.old result rank.new }
 {
-    if rank.len() < n {
-        return refused(0, 7, n);
+    if rank.len() < looped.n {
+        return refused(0, 7, looped.n);
     }
-    match judge_ranking::ranking(loopbytes, FIRST_ROW, n, m, certificate, rank) {
+    match judge_ranking::ranking(looped.rows(), certificate, rank) {
         Ok(Ranked { start, fall }) => accepted(Outcome::Ranking { start, fall }),
         Err(fault) => refused(2, fault.number, fault.place),
     }
 }
 
 // Kind 4, of ms stem rows.
-fn lasso_sound(
-    loopbytes: &[u8],
-    n: usize,
-    m: usize,
-    certificate: &[u8],
-    ms: usize,
-    rank: &mut [i64],
-) -> Verdict
-    requires { LoopSound loopbytes.now n m × LassoSound certificates_judged loopbytes.now certificate.now ms }
-    ensures { Judged loopbytes.now certificate.now rank.old result rank.new }
+fn lasso_sound(looped: SoundLoop, certificate: &[u8], ms: usize, rank: &mut [i64]) -> Verdict
+    requires { LassoSound certificates_judged looped.bytes.now certificate.now ms }
+    ensures { Judged looped.entry.bytes.now certificate.now rank.old result rank.new }
 {
-    if rank.len() < n {
-        return refused(0, 7, n);
+    if rank.len() < looped.n {
+        return refused(0, 7, looped.n);
     }
-    match judge_lasso::lasso(loopbytes, FIRST_ROW, n, m, certificate, ms, rank) {
+    let lasso = LassoRecord {
+        bytes: certificate,
+        n: looped.n,
+        m: looped.m,
+        ms,
+    };
+    match judge_lasso::lasso(looped.rows(), lasso, rank) {
         Ok(Ranked { start, fall }) => accepted(Outcome::Lasso { start, fall }),
         Err(fault) => refused(2, fault.number, fault.place),
     }
 }
 
 // Kind 3, which has no rank: the answer is the same for every list.
-fn exclusion_sound(loopbytes: &[u8], n: usize, m: usize, certificate: &[u8]) -> Verdict
-    requires { LoopSound loopbytes.now n m × CertificateSound certificates_judged loopbytes.now certificate.now exclusion }
-    ensures { (lent : List ℤ) → Judged loopbytes.now certificate.now lent result lent }
+fn exclusion_sound(looped: SoundLoop, certificate: &[u8]) -> Verdict
+    requires { CertificateSound certificates_judged looped.bytes.now certificate.now exclusion }
+    ensures { (lent : List ℤ) → Judged looped.entry.bytes.now certificate.now lent result lent }
 {
-    match judge_exclusion::exclusion(loopbytes, FIRST_ROW, n, m, certificate) {
+    match judge_exclusion::exclusion(looped.rows(), certificate) {
         Ok(()) => accepted(Outcome::Exclusion {
-            grade: grade(certificate, n),
+            grade: grade(certificate, looped.n),
         }),
         Err(fault) => refused(2, fault.number, fault.place),
     }
@@ -113,68 +107,46 @@ fn grade(certificate: &[u8], n: usize) -> Grade
 // ---- by the certificate's kind: its frame and kind are right, and the loop is sound
 
 // Kind 2: what else is wrong with the record, the rank list, and then the conditions.
-pub fn by_ranking(
-    loopbytes: &[u8],
-    n: usize,
-    m: usize,
-    certificate: &[u8],
-    rank: &mut [i64],
-) -> Verdict
-    requires { LoopSound loopbytes.now n m × Opened certificate.now 2 n m }
-    ensures { Judged loopbytes.now certificate.now rank.old result rank.new }
+pub fn by_ranking(looped: SoundLoop, certificate: OfKind<2>, rank: &mut [i64]) -> Verdict
+    ensures { Judged looped.entry.bytes.now certificate.entry.bytes.now rank.old result rank.new }
 {
-    match record_check::ranking_record(certificate, n, m) {
-        Ok(_) => ranking_sound(loopbytes, n, m, certificate, rank),
+    match record_check::ranking_record(certificate, looped.n, looped.m) {
+        Ok(_) => ranking_sound(looped, certificate.bytes, rank),
         Err(fault) => refused(2, fault.number, fault.place),
     }
 }
 
 // Kind 3, which has no rank.
-pub fn by_exclusion(loopbytes: &[u8], n: usize, m: usize, certificate: &[u8]) -> Verdict
-    requires { LoopSound loopbytes.now n m × Opened certificate.now 3 n m }
-    ensures { (lent : List ℤ) → Judged loopbytes.now certificate.now lent result lent }
+pub fn by_exclusion(looped: SoundLoop, certificate: OfKind<3>) -> Verdict
+    ensures { (lent : List ℤ) → Judged looped.entry.bytes.now certificate.entry.bytes.now lent result lent }
 {
-    match record_check::exclusion_record(certificate, n, m) {
-        Ok(_) => exclusion_sound(loopbytes, n, m, certificate),
+    match record_check::exclusion_record(certificate, looped.n, looped.m) {
+        Ok(_) => exclusion_sound(looped, certificate.bytes),
         Err(fault) => refused(2, fault.number, fault.place),
     }
 }
 
 // Kind 4.
-pub fn by_lasso(
-    loopbytes: &[u8],
-    n: usize,
-    m: usize,
-    certificate: &[u8],
-    rank: &mut [i64],
-) -> Verdict
-    requires { LoopSound loopbytes.now n m × Opened certificate.now 4 n m }
-    ensures { Judged loopbytes.now certificate.now rank.old result rank.new }
+pub fn by_lasso(looped: SoundLoop, certificate: OfKind<4>, rank: &mut [i64]) -> Verdict
+    ensures { Judged looped.entry.bytes.now certificate.entry.bytes.now rank.old result rank.new }
 {
-    match record_check::lasso_record(certificate, n, m) {
-        Ok(checked) => lasso_sound(loopbytes, n, m, certificate, checked.ms, rank),
+    match record_check::lasso_record(certificate, looped.n, looped.m) {
+        Ok(checked) => lasso_sound(looped, certificate.bytes, checked.ms, rank),
         Err(fault) => refused(2, fault.number, fault.place),
     }
 }
 
 // Judges a certificate for a loop record that has been checked, so that a sheet checks its loop once.
-pub fn judge_sound(
-    loopbytes: &[u8],
-    n: usize,
-    m: usize,
-    certificate: &[u8],
-    rank: &mut [i64],
-) -> Verdict
-    requires { LoopSound loopbytes.now n m }
-    ensures { Judged loopbytes.now certificate.now rank.old result rank.new }
+pub fn judge_sound(looped: SoundLoop, certificate: &[u8], rank: &mut [i64]) -> Verdict
+    ensures { Judged looped.entry.bytes.now certificate.now rank.old result rank.new }
 {
     if let Err(fault) = record_check::frame(certificate) {
         return refused(2, fault.number, fault.place);
     }
     match endian::u16_at(certificate, 4) {
-        2 => by_ranking(loopbytes, n, m, certificate, rank),
-        3 => by_exclusion(loopbytes, n, m, certificate),
-        4 => by_lasso(loopbytes, n, m, certificate, rank),
+        2 => by_ranking(looped, OfKind { bytes: certificate }, rank),
+        3 => by_exclusion(looped, OfKind { bytes: certificate }),
+        4 => by_lasso(looped, OfKind { bytes: certificate }, rank),
         _ => refused(2, 4, 4),
     }
 }

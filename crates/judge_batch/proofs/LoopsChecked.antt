@@ -53,6 +53,12 @@ module _ (loopbytes : List ℕ) where
           let is = loop_kind loopbytes _ _ with_counts in
           record { told = rows; n_is = rw is; m_is = rw is }
 
+    -- with the counts that were read
+    pub rows_read : of_paths loopbytes ≡ false → {n m : ℕ} → n ≡ little_at 2 loopbytes 6 → m ≡ little_at 2 loopbytes 8 → LoopSound loopbytes n m
+    rows_read rows n_is m_is =
+        let sound = sound_rows (sym (as_rows rows) ∙ told) in
+        record { told = sound.told; n_is = n_is ∙ sound.n_is; m_is = m_is ∙ sound.m_is }
+
     pub loop_long : 10 ≤ length loopbytes
     loop_long =
         either (of_paths loopbytes)

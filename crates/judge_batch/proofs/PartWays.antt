@@ -8,6 +8,7 @@ use lib.IntN.{ℤ}
 use lib.ListN.{take, drop, take-append-drop}
 use lib.Seq.{drop-drop}
 use borrow.Rule.Slice.PartMut.{put_mid}
+use Rattle.endian.specs.Numbers.{little_at}
 use Rattle.verdict.specs.declared.Verdict.{Verdict}
 use Rattle.verdict_paths.specs.JudgingByLoop.{of_paths}
 use Rattle.verdict_paths.specs.PathJudging.{path_judges}
@@ -15,8 +16,14 @@ use Rattle.verdict_short.specs.Answers.{answered, rank_answered}
 use Rattle.verdict_batch.specs.Batches.{variables, stretch, with_stretch}
 use Rattle.judge_by_kind.proofs.AnswerWays as Ways
 
-pub room_so : (n v i len : ℕ) → n ≡ v → v * i + v ≤ len → n * i + n ≤ len
-room_so n v i len same room = rw same room
+-- where n was read
+n_is : (loopbytes : List ℕ) {n : ℕ} → n ≡ little_at 2 loopbytes 6 → n ≡ variables loopbytes
+unfolding variables
+n_is loopbytes read = read
+
+-- there stretch i has room
+pub room_so : (loopbytes : List ℕ) {n : ℕ} → n ≡ little_at 2 loopbytes 6 → (i len : ℕ) → variables loopbytes * i + variables loopbytes ≤ len → n * i + n ≤ len
+room_so loopbytes read i len room = rw (n_is loopbytes read) room
 
 -- a stretch put back as it was
 stretch_back : (n i : ℕ) (ranks : List ℤ) → ranks ≡ with_stretch n i (stretch n i ranks) ranks
@@ -54,15 +61,15 @@ module _ (loopbytes certificate : List ℕ) (ranks : List ℤ) (i : ℕ) where
       ap (λ k. take (n * i) ranks ++ (other ++ drop k (drop (n * i) ranks))) size
       ∙ ap (λ rest. take (n * i) ranks ++ (other ++ rest)) (drop-drop n (n * i) ranks)
 
-  pub rows_part : (n : ℕ) → n ≡ variables loopbytes → (v : Verdict) (after : List ℤ)
+  pub rows_part : (n : ℕ) → n ≡ little_at 2 loopbytes 6 → (v : Verdict) (after : List ℤ)
       → (v ≡ answered loopbytes certificate (take (n * i + n - n * i) (drop (n * i) ranks)))
       × (after ≡ rank_answered loopbytes certificate (take (n * i + n - n * i) (drop (n * i) ranks)))
       → Judged v (put_mid (n * i) (n * i + n - n * i) ranks after)
-  rows_part n n_is v after is =
-      let same : stretch n i ranks ≡ lent = ap (λ k. stretch k i ranks) n_is in
+  rows_part n read v after is =
+      let same : stretch n i ranks ≡ lent = ap (λ k. stretch k i ranks) (n_is loopbytes read) in
       let Lent-is = part_is n ∙ same in (
         is.0 ∙ ap (answered loopbytes certificate) Lent-is,
         put_is n after
             ∙ ap (λ xs. with_stretch n i xs ranks) (is.1 ∙ ap (rank_answered loopbytes certificate) Lent-is)
-            ∙ ap (λ k. with_stretch k i (rank_answered loopbytes certificate lent) ranks) n_is,
+            ∙ ap (λ k. with_stretch k i (rank_answered loopbytes certificate lent) ranks) (n_is loopbytes read),
       )

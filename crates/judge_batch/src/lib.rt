@@ -5,12 +5,13 @@
 ghost use Rattle.std.specs.Prelude.{◌+◌, ◌*◌, ◌-◌, ◌≤◌, ◌≡◌, length, take, drop};
 ghost use Rattle.refusal.specs.Faults.{result_of};
 ghost use Rattle.refusal.specs.Tests.{done};
-ghost use Rattle.judge.specs.SoundPairs.{LoopSound};
 ghost use Rattle.judge_by_kind.specs.PastFrames.{Past};
 ghost use Rattle.verdict_short.specs.Answers.{answered, rank_answered};
 ghost use Rattle.verdict_flat.specs.FlatVerdicts.{flat_verdict};
 ghost use Rattle.verdict_batch.specs.Batches.{loop_told, variables, stretch, with_stretch, batch_of, batch_answers};
 
+use judge::SoundLoop;
+use record_check::OfKind;
 use refusal::Fault;
 use verdict::Verdict;
 use verdict_batch::Batched;
@@ -30,7 +31,7 @@ fn check_loop(loopbytes: &[u8]) -> Result<(), Fault>
     Ok(())
 }
 
-// A refusal of the whole batch: no record is judged.
+// A refusal of the whole batch, in the fields of its answer: no record is judged.
 fn refused(about: usize, number: usize, place: usize) -> Batched
     ensures { result ≡ record { number = number; place = place; about = about; count = 0 } }
 {
@@ -71,22 +72,20 @@ pub fn enter(loopbytes: &[u8], bytes: &[u8], places: usize, numbers: usize) -> B
 // ---- one record
 
 // Kinds 3 and 7, whose judges are functions that are called, and the numbers that no kind has.
-fn judge_others(
-    loopbytes: &[u8],
-    n: usize,
-    m: usize,
-    certificate: &[u8],
-    kind: usize,
-    rank: &mut [i64],
-) -> Verdict
-    requires past_frame { Past loopbytes.now certificate.now n m kind }
+fn judge_others(looped: SoundLoop, certificate: &[u8], kind: usize, rank: &mut [i64]) -> Verdict
+    requires past_frame { Past certificate.now kind }
     requires other_kind { (kind ≡ 2 → ⊥) × (kind ≡ 4 → ⊥) × (kind ≡ 8 → ⊥) }
-    ensures { (result ≡ answered loopbytes.now certificate.now rank.old)
-        × (rank.new ≡ rank_answered loopbytes.now certificate.now rank.old) }
+    ensures { (result ≡ answered looped.entry.bytes.now certificate.now rank.old)
+        × (rank.new ≡ rank_answered looped.entry.bytes.now certificate.now rank.old) }
 {
     match kind {
-        3 => judge::by_exclusion(&loopbytes[..], n, m, &certificate[..]),
-        7 => judge_short::by_short(&loopbytes[..], n, m, &certificate[..], rank),
+        3 => judge::by_exclusion(
+            looped,
+            OfKind {
+                bytes: &certificate[..],
+            },
+        ),
+        7 => judge_short::by_short(looped, &certificate[..], rank),
         _ => judge::refused(2, 4, 4),
     }
 }
@@ -94,32 +93,31 @@ fn judge_others(
 // Judges a certificate for a loop record of kind 1 that has been checked, as `judge_by_kind` does. Kinds 2, 4 and 8 tell their verdicts in
 // numbers each by itself: put into one place with the others first, a verdict would be read there before it is written through (`docs/PERFORMANCE.md`,
 // "A batch").
-fn flat_certificate(
-    loopbytes: &[u8],
-    n: usize,
-    m: usize,
-    certificate: &[u8],
-    rank: &mut [i64],
-) -> FlatVerdict
-    requires { LoopSound loopbytes.now n m }
-    ensures { (result ≡ flat_verdict (answered loopbytes.now certificate.now rank.old))
-        × (rank.new ≡ rank_answered loopbytes.now certificate.now rank.old) }
+fn flat_certificate(looped: SoundLoop, certificate: &[u8], rank: &mut [i64]) -> FlatVerdict
+    ensures { (result ≡ flat_verdict (answered looped.entry.bytes.now certificate.now rank.old))
+        × (rank.new ≡ rank_answered looped.entry.bytes.now certificate.now rank.old) }
 {
     if let Err(fault) = record_check::frame(certificate) {
         return FlatVerdict::from(judge::refused(2, fault.number, fault.place));
     }
     let kind = endian::u16_at(certificate, 4);
     match kind {
-        2 => FlatVerdict::from(judge::by_ranking(&loopbytes[..], n, m, &certificate[..], rank)),
-        4 => FlatVerdict::from(judge::by_lasso(&loopbytes[..], n, m, &certificate[..], rank)),
-        8 => FlatVerdict::from(judge_by_kind::settling_sound(
-            &loopbytes[..],
-            n,
-            m,
-            &certificate[..],
+        2 => FlatVerdict::from(judge::by_ranking(
+            looped,
+            OfKind {
+                bytes: &certificate[..],
+            },
             rank,
         )),
-        _ => FlatVerdict::from(judge_others(&loopbytes[..], n, m, &certificate[..], kind, rank)),
+        4 => FlatVerdict::from(judge::by_lasso(
+            looped,
+            OfKind {
+                bytes: &certificate[..],
+            },
+            rank,
+        )),
+        8 => FlatVerdict::from(judge_by_kind::settling_sound(looped, &certificate[..], rank)),
+        _ => FlatVerdict::from(judge_others(looped, &certificate[..], kind, rank)),
     }
 }
 
@@ -148,7 +146,12 @@ pub fn flat_part(
     let n = endian::u16_at(loopbytes, 6);
     let m = endian::u16_at(loopbytes, 8);
     let at = n * i;
-    flat_certificate(loopbytes, n, m, certificate, &mut ranks[at..at + n])
+    let looped = SoundLoop {
+        bytes: loopbytes,
+        n,
+        m,
+    };
+    flat_certificate(looped, certificate, &mut ranks[at..at + n])
 }
 
 // The same, with the verdict as it is.

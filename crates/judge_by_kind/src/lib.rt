@@ -4,16 +4,16 @@
 
 ghost use Rattle.std.specs.Prelude.{◌≡◌};
 ghost use Rattle.endian.specs.Numbers.{little_at};
-ghost use Rattle.record_check.specs.Checks.{Framed};
 ghost use Rattle.record_paths.specs.PathFields.{bytes_alone};
 ghost use Rattle.record_paths.specs.PathLoops.{sound_paths};
 ghost use Rattle.refusal.specs.Tests.{done, first};
 ghost use Rattle.verdict_paths.specs.PathJudging.{path_judges};
 ghost use Rattle.verdict_short.specs.Answers.{answered, rank_answered};
-ghost use Rattle.judge.specs.SoundPairs.{LoopSound};
 ghost use Rattle.judge_by_kind.specs.SettlingShown.{SettlingJudged};
 
+use judge::SoundLoop;
 use judge_ranking::Ranked;
+use record_check::{Checked, OfKind};
 use verdict::{Outcome, Verdict};
 
 // Judges a certificate for a loop record of kind 5 that has been checked. There is no rank.
@@ -41,23 +41,16 @@ fn judge_paths(loopbytes: &[u8], certificate: &[u8]) -> Verdict
 }
 
 // A certificate of kind 8, for a loop record that has been checked.
-pub fn settling_sound(
-    loopbytes: &[u8],
-    n: usize,
-    m: usize,
-    certificate: &[u8],
-    rank: &mut [i64],
-) -> Verdict
-    requires { LoopSound loopbytes.now n m }
-    ensures { SettlingJudged loopbytes.now certificate.now rank.old result rank.new }
+pub fn settling_sound(looped: SoundLoop, certificate: &[u8], rank: &mut [i64]) -> Verdict
+    ensures { SettlingJudged looped.entry.bytes.now certificate.now rank.old result rank.new }
 {
-    if let Err(fault) = record_settling::check_settling(certificate, n, m) {
+    if let Err(fault) = record_settling::check_settling(certificate, looped.n, looped.m) {
         return judge::refused(2, fault.number, fault.place);
     }
-    if rank.len() < n {
-        return judge::refused(0, 7, n);
+    if rank.len() < looped.n {
+        return judge::refused(0, 7, looped.n);
     }
-    match judge_settling::settling(loopbytes, judge::FIRST_ROW, n, m, certificate, rank) {
+    match judge_settling::settling(looped.rows(), certificate, rank) {
         Ok(Ranked { start, fall }) => judge::accepted(Outcome::Settling { start, fall }),
         Err(fault) => judge::refused(2, fault.number, fault.place),
     }
@@ -65,38 +58,54 @@ pub fn settling_sound(
 
 // Judges a certificate for a loop record that has been checked: its frame is the same for every kind, and its kind decides the rest. Slices are
 // handed on as `[..]`, in two parts: a copy of both at once would wait for the caller's stores.
-fn judge_certificate(
-    loopbytes: &[u8],
-    n: usize,
-    m: usize,
-    certificate: &[u8],
-    rank: &mut [i64],
-) -> Verdict
-    requires { LoopSound loopbytes.now n m }
-    ensures { (result ≡ answered loopbytes.now certificate.now rank.old)
-        × (rank.new ≡ rank_answered loopbytes.now certificate.now rank.old) }
+fn judge_certificate(looped: SoundLoop, certificate: &[u8], rank: &mut [i64]) -> Verdict
+    ensures { (result ≡ answered looped.entry.bytes.now certificate.now rank.old)
+        × (rank.new ≡ rank_answered looped.entry.bytes.now certificate.now rank.old) }
 {
     if let Err(fault) = record_check::frame(certificate) {
         return judge::refused(2, fault.number, fault.place);
     }
     match endian::u16_at(certificate, 4) {
-        2 => judge::by_ranking(&loopbytes[..], n, m, &certificate[..], rank),
-        3 => judge::by_exclusion(&loopbytes[..], n, m, &certificate[..]),
-        4 => judge::by_lasso(&loopbytes[..], n, m, &certificate[..], rank),
-        7 => judge_short::by_short(&loopbytes[..], n, m, &certificate[..], rank),
-        8 => settling_sound(&loopbytes[..], n, m, &certificate[..], rank),
+        2 => judge::by_ranking(
+            looped,
+            OfKind {
+                bytes: &certificate[..],
+            },
+            rank,
+        ),
+        3 => judge::by_exclusion(
+            looped,
+            OfKind {
+                bytes: &certificate[..],
+            },
+        ),
+        4 => judge::by_lasso(
+            looped,
+            OfKind {
+                bytes: &certificate[..],
+            },
+            rank,
+        ),
+        7 => judge_short::by_short(looped, &certificate[..], rank),
+        8 => settling_sound(looped, &certificate[..], rank),
         _ => judge::refused(2, 4, 4),
     }
 }
 
 // A loop record of kind 1 whose frame is right.
-fn judge_rows(loopbytes: &[u8], certificate: &[u8], rank: &mut [i64]) -> Verdict
-    requires { Framed loopbytes.now × (little_at 2 loopbytes.now 4 ≡ 1) }
-    ensures { (result ≡ answered loopbytes.now certificate.now rank.old)
-        × (rank.new ≡ rank_answered loopbytes.now certificate.now rank.old) }
+fn judge_rows(loopbytes: OfKind<1>, certificate: &[u8], rank: &mut [i64]) -> Verdict
+    ensures { (result ≡ answered loopbytes.entry.bytes.now certificate.now rank.old)
+        × (rank.new ≡ rank_answered loopbytes.entry.bytes.now certificate.now rank.old) }
 {
     match record_check::loop_record(loopbytes) {
-        Ok(checked) => judge_certificate(loopbytes, checked.n, checked.m, certificate, rank),
+        Ok(Checked { n, m, .. }) => {
+            let looped = SoundLoop {
+                bytes: loopbytes.bytes,
+                n,
+                m,
+            };
+            judge_certificate(looped, certificate, rank)
+        }
         Err(fault) => judge::refused(1, fault.number, fault.place),
     }
 }
@@ -110,7 +119,7 @@ pub fn judge(loopbytes: &[u8], certificate: &[u8], rank: &mut [i64]) -> Verdict
         return judge::refused(1, fault.number, fault.place);
     }
     match endian::u16_at(loopbytes, 4) {
-        1 => judge_rows(loopbytes, certificate, rank),
+        1 => judge_rows(OfKind { bytes: loopbytes }, certificate, rank),
         5 => judge_paths(loopbytes, certificate),
         _ => judge::refused(1, 4, 4),
     }

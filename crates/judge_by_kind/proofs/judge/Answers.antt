@@ -14,8 +14,9 @@ returns-in-Err c =
 pub u16_at-requires : goal.u16_at-requires
 u16_at-requires c = (well_framed c.args.loopbytes.now (sym c.in_default.is ∙ c.frame.ensures)).head
 
-pub judge_rows-requires : goal.judge_rows-requires
-judge_rows-requires c = (well_framed c.args.loopbytes.now (sym c.in_default.is ∙ c.frame.ensures), sym c.u16_at.ensures.0 ∙ c.in-1.is)
+pub invariant_of-judge_rows : goal.invariant_of-judge_rows
+invariant_of-judge_rows c =
+    record { framed = well_framed c.args.loopbytes.now (sym c.in_default.is ∙ c.frame.ensures); numbered = sym c.u16_at.ensures.0 ∙ c.in-1.is }
 
 pub returns-in-5 : goal.returns-in-5
 returns-in-5 c =

@@ -6,13 +6,13 @@ use Rattle.judge.proofs.Entered as Entered
 use Rattle.judge_by_kind.proofs.AnswerWays.{loop_refused}
 use Rattle.judge_by_kind.proofs.judge_rows.Goals as goal
 
-pub judge_certificate-requires : goal.judge_certificate-requires
-judge_certificate-requires c = Entered.loop_sound c.args.loopbytes.now c.in-Ok.checked (sym c.in-Ok.is ∙ c.loop_record.ensures)
+pub invariant_of-looped : goal.invariant_of-looped
+invariant_of-looped c = record { sound = Entered.loop_sound _ c.in-Ok.field-0 (sym c.in-Ok.is ∙ c.loop_record.ensures) }
 
 pub returns-in-Err : goal.returns-in-Err
 returns-in-Err c =
     let a = c.args in
-    let rows : of_paths a.loopbytes.now ≡ false = not_five a.loopbytes.now (λ e. omega (arith, e, c.requires.1)) in
-    let told = Entered.loop_refused a.loopbytes.now c.in-Err.fault (sym c.in-Err.is ∙ c.loop_record.ensures) in
-    let by = loop_refused a.loopbytes.now a.certificate.now a.rank.now rows _ _ told in
+    let rows : of_paths a.loopbytes.bytes.now ≡ false = not_five a.loopbytes.bytes.now (λ e. omega (arith, e, c.args.loopbytes.numbered)) in
+    let told = Entered.loop_refused a.loopbytes.bytes.now c.in-Err.fault (sym c.in-Err.is ∙ c.loop_record.ensures) in
+    let by = loop_refused a.loopbytes.bytes.now a.certificate.now a.rank.now rows _ _ told in
     (c.refused.ensures ∙ by.0, by.1)

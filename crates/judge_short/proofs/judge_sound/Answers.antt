@@ -8,9 +8,9 @@ use Rattle.judge_short.proofs.judge_sound.Goals as goal
 
 pub by_short-requires : goal.by_short-requires
 by_short-requires c =
-    (c.requires, (both_true (leb 6 (length c.args.certificate.now)) (of_short c.args.certificate.now) (sym c.is_short.ensures ∙ c.if-is_short.true)).1)
+    (both_true (leb 6 (length c.args.certificate.now)) (of_short c.args.certificate.now) (sym c.is_short.ensures ∙ c.if-is_short.true)).1
 
 pub returns : goal.returns
 returns c =
-    let by = as_it_is c.args.loopbytes.now c.args.certificate.now c.args.rank.now (sym c.is_short.ensures ∙ c.if-is_short.false) in
+    let by = as_it_is c.args.looped.bytes.now c.args.certificate.now c.args.rank.now (sym c.is_short.ensures ∙ c.if-is_short.false) in
     (c.judge_sound.ensures.0 ∙ sym by.0, c.judge_sound.ensures.1 ∙ sym by.1)
