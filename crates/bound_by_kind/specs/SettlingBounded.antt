@@ -1,16 +1,10 @@
--- What the bound's functions know of a state, and the bound by a certificate of kind 8.
-use Rattle.std.specs.Prelude.{ℕ, ◌≤◌, ◌≡◌, cond, List, ℤ, nat_abs, ◌-ℤ◌, length}
+-- The bound by a certificate of kind 8, by places.
+use Rattle.std.specs.Prelude.{ℕ, cond, List, ℤ, nat_abs, ◌-ℤ◌}
 use Rattle.std.specs.Int.Signed.{lt_z}
-use Rattle.whole.specs.Sums.{dot, Within}
+use Rattle.whole.specs.Sums.{dot}
 use Rattle.record_settling.specs.SettlingRecords.{g_place, t_place}
 use Rattle.judge_sums.specs.Lists.{entries_from}
 use Rattle.judge_sums.specs.Places.{right_at}
-
--- a state of n entries, each small enough for g·x and t - g·x to fit
-pub record StateIn (state : List ℤ) (n : ℕ) : Type 0 where
-  pub few : n ≤ 16
-  pub long : length state ≡ n
-  pub small : Within 1048576 state
 
 -- t - g·x by places, 0 if that is negative
 unfoldable pub steps_held : List ℕ → ℕ → List ℤ → ℕ

@@ -1,4 +1,4 @@
-pub mod StepLaws
 pub mod BoundingWays
+pub mod FittingStates
 pub mod BoundedKinds
 pub mod ByKind

@@ -13,8 +13,9 @@ returns-in-Err c =
 pub u16_at-requires : goal.u16_at-requires
 u16_at-requires c = (well_framed c.args.loopbytes.now (sym c.in_default.is ∙ c.frame.ensures)).head
 
-pub bound_rows-requires : goal.bound_rows-requires
-bound_rows-requires c = (well_framed c.args.loopbytes.now (sym c.in_default.is ∙ c.frame.ensures), sym c.u16_at.ensures.0 ∙ c.in-1.is)
+pub invariant_of-bound_rows : goal.invariant_of-bound_rows
+invariant_of-bound_rows c =
+    record { framed = well_framed c.args.loopbytes.now (sym c.in_default.is ∙ c.frame.ensures); numbered = sym c.u16_at.ensures.0 ∙ c.in-1.is }
 
 pub returns-in_default-u16_at : goal.returns-in_default-u16_at
 returns-in_default-u16_at c =

@@ -4,11 +4,11 @@ use Rattle.judge.proofs.Entered as Entered
 use Rattle.bound_by_kind.proofs.AnswerWays.{loop_refused}
 use Rattle.bound_by_kind.proofs.bound_rows.Goals as goal
 
-pub bound_certificate-requires : goal.bound_certificate-requires
-bound_certificate-requires c = Entered.loop_sound c.args.loopbytes.now c.in-Ok.checked (sym c.in-Ok.is ∙ c.loop_record.ensures)
+pub invariant_of-looped : goal.invariant_of-looped
+invariant_of-looped c = record { sound = Entered.loop_sound c.args.loopbytes.bytes.now c.in-Ok.checked (sym c.in-Ok.is ∙ c.loop_record.ensures) }
 
 pub returns-in-Err : goal.returns-in-Err
 returns-in-Err c =
     let a = c.args in
     c.refused.ensures
-    ∙ loop_refused a.loopbytes.now a.certificate.now a.state.now _ _ (Entered.loop_refused a.loopbytes.now c.in-Err.fault (sym c.in-Err.is ∙ c.loop_record.ensures))
+    ∙ loop_refused a.loopbytes.bytes.now a.certificate.now a.state.now _ _ (Entered.loop_refused a.loopbytes.bytes.now c.in-Err.fault (sym c.in-Err.is ∙ c.loop_record.ensures))
