@@ -1,4 +1,4 @@
-// A job's certificates at once, with a lent row of verdicts: one thin function over the judge of one record.
+// A job's certificates at once, with a lent row of verdicts: one thin function over what fills a row of any kind.
 #![tactic(auto)]
 
 ghost use Rattle.std.specs.Prelude.{◌≡◌, length};
@@ -18,12 +18,5 @@ pub fn judge_all(
         × (verdicts.new ≡ verdicts_after loopbytes.now bytes.now verdicts.old ranks.old)
         × (ranks.new ≡ ranks_after loopbytes.now bytes.now (length verdicts.old) ranks.old) }
 {
-    let said = judge_batch::enter(loopbytes, bytes, verdicts.len(), ranks.len());
-    let mut from = 0;
-    for i in 0..said.count {
-        let end = record_parting::end_at(bytes, from);
-        verdicts[i] = judge_batch::judge_part(loopbytes, bytes, from, end, i, ranks);
-        from = end;
-    }
-    said
+    judge_rows::fill(loopbytes, bytes, verdicts, ranks)
 }

@@ -19,6 +19,15 @@ row_of v =
 abbrev pub verdict_row : Verdict → List ℕ
 verdict_row v = row_of (flat_verdict v)
 
+-- a caller's row after a batch, by what is put for a verdict of some numbers
+abbrev pub put_for : {X : Type 0} → (FlatVerdict → X) → Verdict → X
+put_for of v = of (flat_verdict v)
+
+unfoldable pub filled_by : {X : Type 0} → (FlatVerdict → X) → List ℕ → List ℕ → List X → List ℤ → List X
+filled_by of loopbytes bytes rows ranks =
+    filled (said batching (batch_of loopbytes bytes (length rows) (length ranks)))
+    (map (put_for of) (verdicts_in_turn loopbytes (records bytes) ranks)) rows
+
 -- the rows of a batch afterwards
 unfoldable pub rows_after : List ℕ → List ℕ → List (List ℕ) → List ℤ → List (List ℕ)
 rows_after loopbytes bytes rows ranks =

@@ -1,11 +1,11 @@
--- `judge_rows::row_of` meets its contract: the library's conversion gives the 64 bits of a signed number.
+-- A row of numbers holds a verdict's: the library's conversion gives the 64 bits of a signed number.
 use Rattle.std.proofs.Common.{rules, refl}
 use mir.Syntax.{w64}
 use mir.Val.{SFits}
 use mir.Facts.{to_z-of_z}
 use Rattle.judge_rows.specs.VerdictRows.{row_of}
 use Rattle.judge_rows.proofs.WordLaws.{word_is}
-use Rattle.judge_rows.proofs.row_of.Goals as goal
+use Rattle.judge_rows.proofs.ArrayUsize7Row.of.Goals as goal
 
 pub returns : goal.returns
 unfolding row_of
