@@ -7,13 +7,13 @@ use mathlib.Core.List.{List, [], ◌∷◌, ◌++◌}
 use native.Mathlib.Nat.{pow-succ'}
 use native.Mathlib.Decide.{dec_lt}
 use native.Mathlib.Omega.{arith}
-use lib.IntN.{ℤ, pos, negsuc, nat_abs, neg_ℤ, ◌-ℤ◌}
+use lib.IntN.{ℤ, pos, negsuc, nat_abs, neg_ℤ}
 use lib.Signed.{mag, nat_abs-le, ◌≤ℤ◌, ◌<ℤ◌}
 use lib.ListN.{length, get_or, length-append, get_or-append}
 use borrow.Author.Tests.{lt-ltb, le-ltb, ne_eqb}
 use Rattle.whole.specs.Sums.{Each}
 use Rattle.whole.proofs.EachLaws.{each_append}
-use Rattle.whole.proofs.Solve.{v, ◌⊝◌, solve, le_fact, lt_fact}
+use Rattle.whole.proofs.Solve.{v, le_fact, lt_fact}
 use Rattle.decimal.specs.Decimals.{figures, decimal, signed_decimal, numeral_on, numeral, signed_numeral}
 
 -- ---- what the digits are
@@ -138,6 +138,10 @@ unfolding signed_decimal
 signed_below (pos n) below = absurd (omega (arith, lt_fact (v (pos n)) (v (pos 0)) below))
 signed_below (negsuc n) below = refl
 
+-- a sign takes one byte
+pub length_below : (z : ℤ) → z <ℤ pos 0 → length (signed_decimal z) ≡ suc (length (decimal (nat_abs z)))
+length_below z below = ap length (signed_below z below)
+
 pub signed_above : (z : ℤ) → pos 0 ≤ℤ z → signed_decimal z ≡ decimal (nat_abs z)
 unfolding signed_decimal
 signed_above (pos n) above = refl
@@ -152,8 +156,3 @@ signed_length k (negsuc n) small = omega (arith, decimal_length k (suc n) small)
 -- the smallest i64 takes a sign and 19 digits
 pub signed_room : (z : ℤ) → mag z < 2 ^ 63 → length (signed_decimal z) ≤ 20
 signed_room z small = signed_length 18 z (omega (arith, nat_abs-le z small))
-
--- below 0 the size is one more than what -1 less the number is
-pub size_below_zero : (z : ℤ) → z <ℤ pos 0 → (negsuc 0 -ℤ z ≡ pos (nat_abs z - 1)) × (1 ≤ nat_abs z)
-size_below_zero (pos n) below = absurd (omega (arith, lt_fact (v (pos n)) (v (pos 0)) below))
-size_below_zero (negsuc n) below = (solve (v (negsuc 0) ⊝ v (negsuc n)) (v (pos (suc n - 1))) (omega arith), omega arith)

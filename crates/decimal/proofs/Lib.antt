@@ -1,3 +1,4 @@
 pub mod DecimalLaws
 pub mod Ends
 pub mod RoomLaws
+pub mod TextLaws

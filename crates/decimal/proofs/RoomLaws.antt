@@ -1,14 +1,16 @@
 -- The laws of `written`: a writer that puts one text after another, or one byte before another, leaves what one writing of the whole would.
 -- Rooms, places and texts are explicit, for they stand under functions that compute. Assumes nothing.
-use Prim.Native.Nat.{ℕ, suc, ◌+◌, ◌≤◌, ◌<◌}
-use mathlib.Core.Path.{◌≡◌, refl, sym, ap, ◌∙◌}
-use mathlib.Core.List.{List, [], ◌∷◌, ◌++◌, append_assoc, append-nil}
+use Prim.Native.Nat.{ℕ, suc, ◌+◌, ◌/◌, ◌%◌, ◌≤◌, ◌<◌}
+use mathlib.Core.Path.{◌≡◌, sym, ◌∙◌}
+use mathlib.Core.List.{List, [], ◌∷◌, ◌++◌, append_assoc}
 use native.Mathlib.Nat.{add-zero, zero-add, add_assoc}
 use native.Mathlib.Numerals.{add-one}
 use native.Mathlib.Omega.{arith}
 use lib.ListN.{length, take, drop, set, length-append, length-drop, take-append-drop}
 use lib.Seq.{length-take-le, take_at, drop_at, drop-drop, set_split, take-set-le}
+use Rattle.decimal.specs.Decimals.{decimal}
 use Rattle.decimal.specs.Rooms.{written, Puts}
+use Rattle.decimal.proofs.DecimalLaws.{length_small, length_more, decimal_some, decimal_room, decimal_small, decimal_more, length_below, signed_below, signed_above}
 
 pub length_written : (room : List ℕ) (place : ℕ) (text : List ℕ) → place + length text ≤ length room → length (written room place text) ≡ length room
 unfolding written
@@ -51,17 +53,6 @@ pub written_byte : (room : List ℕ) (place : ℕ) (b : ℕ) → place < length 
 unfolding written
 written_byte room place b here = rw (set_split, add-one)
 
--- a byte after a text
-pub puts_byte : {room between : List ℕ} {place middle : ℕ} (text : List ℕ) (b : ℕ) → place + length text < length room
-    → Puts room place text middle between → Puts room place (text ++ (b ∷ [])) (middle + 1) (set between middle b)
-puts_byte {room} {between} {place} {middle} text b fits one =
-    let same : length between ≡ length room = ap length one.room_is ∙ length_written room place text (omega arith) in
-    puts_on text (b ∷ []) (omega arith) one (record { end_is = refl; room_is = written_byte between middle b (omega (arith, one.end_is)) })
-
--- the first byte of a text, and then the others
-pub written_first : (room : List ℕ) (place b : ℕ) (text : List ℕ) → place < length room → written (set room place b) (place + 1) text ≡ written room place (b ∷ text)
-written_first room place b text here = rw (written_byte room place b here) (written_on room place (b ∷ []) text (omega arith))
-
 -- the last byte of a text before the others
 pub written_last : (room : List ℕ) (place : ℕ) (text : List ℕ) (b : ℕ) → place + length text < length room
     → written (set room (place + length text) b) place text ≡ written room place (text ++ (b ∷ []))
@@ -74,31 +65,11 @@ written_last room place text b here =
     let next : place + length (text ++ (b ∷ [])) ≡ suc (place + length text) = simp length-append (omega arith) in
     rw (take-set-le place room (place + length text) b within, after, next, append_assoc)
 
--- ---- a text that is written part by part: all of it is what was put so far and what is still to come
+-- the last digit of a number before those of its tenth
+pub written_digit : (room : List ℕ) (place at x : ℕ) → 10 ≤ x → at ≡ place + length (decimal (x / 10)) → at < length room
+    → written (set room at (48 + x % 10)) place (decimal (x / 10)) ≡ written room place (decimal x)
+written_digit room place at x large is here =
+    rw (is, decimal_more x large) (written_last room place (decimal (x / 10)) (48 + x % 10) (omega arith))
 
-pub record SoFar (room : List ℕ) (place : ℕ) (all rest : List ℕ) (end : ℕ) (after : List ℕ) : Type 0 where
-  pub text : List ℕ
-  pub put : Puts room place text end after
-  pub parts : text ++ rest ≡ all
-
-pub so_far_none : (room : List ℕ) (place : ℕ) (all : List ℕ) → SoFar room place all all place room
-so_far_none room place all = record { text = []; put = puts_none room place; parts = refl }
-
-module _ {room : List ℕ} {place : ℕ} {all : List ℕ} where
-  -- there is room for the next part
-  pub so_far_room : {middle : ℕ} {between : List ℕ} (part rest : List ℕ) → SoFar room place all (part ++ rest) middle between → place + length all ≤ length room → middle + length part ≤ length room
-  so_far_room part rest far fits = omega (arith, far.put.end_is, simp length-append at (ap length far.parts))
-
-  -- the next part is put
-  pub so_far_more : {middle end : ℕ} {between after : List ℕ} (part rest : List ℕ) → SoFar room place all (part ++ rest) middle between → place + length all ≤ length room
-      → Puts between middle part end after → SoFar room place all rest end after
-  so_far_more part rest far fits next =
-      record {
-        text = far.text ++ part;
-        put = puts_on far.text part (omega (arith, simp length-append at (ap length far.parts))) far.put next;
-        parts = append_assoc far.text part rest ∙ far.parts;
-      }
-
-  -- nothing is left to come
-  pub so_far_all : {end : ℕ} {after : List ℕ} → SoFar room place all [] end after → Puts room place all end after
-  so_far_all far = let whole = sym (append-nil far.text) ∙ far.parts in rw (← whole) far.put
+-- what the writers of numbers are proved by
+pub ruleset number_writing = (length_small, length_more, decimal_some, decimal_room, decimal_small, length_below, signed_below, signed_above, length_written, written_byte, written_on, written_digit)

@@ -1,18 +1,20 @@
 -- The laws of parts: the first line and what comes after it, and one line more in the room. Assumes nothing.
 use mathlib.Core.Path.{◌≡◌, refl, sym, ap, ◌∙◌}
-use Prim.Native.Nat.{ℕ, ◌+◌, ◌*◌, ◌≤◌, ◌<◌}
+use Prim.Native.Nat.{ℕ, ◌+◌, ◌*◌, ◌-◌, ◌≤◌, ◌<◌}
 use mathlib.Core.List.{List, [], ◌++◌, append_assoc, append-nil}
 use native.Mathlib.Omega.{arith}
-use lib.ListN.{length, take, drop, length-append, drop_of_length-le}
-use lib.Seq.{take_at, length-take-le}
+use lib.ListN.{length, take, drop, length-append, length-drop, drop_of_length-le}
+use lib.Seq.{take_at, take_all, length-take-le}
 use Rattle.decimal.specs.Rooms.{written, Puts}
 use Rattle.record.specs.Readers.{sound}
 use Rattle.refusal.specs.Tests.{Told, done, refused, first}
 use Rattle.verdict.specs.Pairs.{loop_record}
 use Rattle.judge.specs.SoundPairs.{LoopSound}
 use Rattle.record_parting.specs.Parting.{taken, first_record, records}
+use Rattle.record_parting.proofs.PartingLaws.{taken_within, taken_some}
 use Rattle.sheet_text.specs.Sheets.{certificate_line, lines, judged, sheet_text}
 use Rattle.sheet_text.proofs.TextLaws.{text_parted, lines_none, lines_turn}
+use Rattle.sheet_text.proofs.WorstCase.{certificate_size}
 use Rattle.decimal.proofs.RoomLaws.{length_written}
 use Rattle.sheet_parts.specs.Parts.{to_come, Goes_on, Begins}
 use Rattle.sheet_parts.specs.declared.Part.{Part}
@@ -87,11 +89,45 @@ module _ {input room after line : List ℕ} {end : ℕ} (part : Part) (put : Put
 
 -- ---- the lines after it
 
--- the line of a certificate comes first of what is to come
-pub line_first : (input part : List ℕ) (place size count : ℕ) → part ≡ drop place input → size ≡ taken (drop place input) → 0 < length (drop place input)
-    → to_come input place count ≡ certificate_line (first_record input) count (take size part) ++ to_come input (place + size) (count + 1)
-unfolding to_come
-line_first input part place size count part_is size_is some = lines_turn (first_record input) count input part place size part_is size_is some
+-- the first record of the bytes that are left
+module _ (input : List ℕ) (place size : ℕ) (more : place < length input) (is : size ≡ taken (take (length input - place) (drop place input))) where
+  abbrev left : List ℕ
+  left = drop place input
+
+  abbrev part : List ℕ
+  part = take (length input - place) left
+
+  long : length left ≡ length input - place
+  long = length-drop place input
+
+  part_is : part ≡ left
+  part_is = take_all (length input - place) left (omega (arith, long))
+
+  size_is : size ≡ taken left
+  size_is = rw part_is at is
+
+  -- it is not empty, and lies within the input
+  pub size_some : 0 < size
+  size_some = omega (arith, size_is, taken_some left (omega (arith, long)))
+
+  pub size_within : place + size ≤ length input
+  size_within = omega (arith, size_is, taken_within left, long)
+
+  pub size_held : length (take size part) ≡ size
+  size_held = rw part_is (length-take-le size left (omega (arith, size_within, long)))
+
+  -- its line is short, and comes first of what is to come
+  module _ (count : ℕ) where
+    abbrev line : List ℕ
+    line = certificate_line (first_record input) count (take size part)
+
+    pub line_short : {n m : ℕ} → LoopSound (first_record input) n m → length input ≤ 65_536 → count ≤ place + 1 → length line ≤ 282
+    line_short sound short counted =
+        certificate_size (first_record input) (take size part) sound.told (omega (arith, size_held, size_within)) count (omega arith)
+
+    pub line_first : to_come input place count ≡ line ++ to_come input (place + size) (count + 1)
+    unfolding to_come
+    line_first = lines_turn (first_record input) count input part place size part_is size_is (omega (arith, long))
 
 -- a room of a size that is being filled, from a place and a count on. A line has at most 282 bytes and its certificate at least one, so a room in which
 -- something was put has left the place behind.
@@ -106,21 +142,27 @@ pub record Filled (input : List ℕ) (from count_from size : ℕ) (room : List �
 pub filled_none : (input : List ℕ) (from count : ℕ) (room : List ℕ) → from ≤ length input → count ≤ from + 1 → Filled input from count (length room) room 0 from count
 filled_none input from count room within counted = record { within = within; counted = counted; same = refl; fits = omega arith; moved = omega arith; whole = refl }
 
-module _ {input room after : List ℕ} {from count_from size end place count next : ℕ} where
-  pub filled_more : (line : List ℕ) (taken_here : ℕ) → Filled input from count_from size room end place count → to_come input place count ≡ line ++ to_come input (place + taken_here) (count + 1)
-      → Puts room end line next after → length after ≡ length room → 0 < taken_here → place + taken_here ≤ length input → length line ≤ 282 → end + length line ≤ size
-      → Filled input from count_from size after next (place + taken_here) (count + 1)
-  filled_more line taken_here far here put same_length some within short fits =
-      record {
-        within = within;
-        counted = omega (arith, far.counted);
-        same = same_length ∙ far.same;
-        fits = omega (arith, put.end_is);
-        moved = omega (arith, put.end_is, far.moved);
-        whole =
-            far.whole ∙ ap (λ (l : List ℕ). take end room ++ l) here ∙ sym (append_assoc (take end room) line (to_come input (place + taken_here) (count + 1)))
-            ∙ ap (λ (l : List ℕ). l ++ to_come input (place + taken_here) (count + 1)) (sym (longer_front room end line put (omega (arith, far.same, far.fits))));
-      }
+-- the line of the first record of the bytes that are left is put behind what is there
+pub filled_more : {input room after : List ℕ} {from count_from all end place count next n m : ℕ} (size : ℕ)
+    → (more : place < length input) (is : size ≡ taken (take (length input - place) (drop place input)))
+    → Filled input from count_from all room end place count → LoopSound (first_record input) n m → length input ≤ 65_536 → 306 ≤ length room - end
+    → Puts room end (certificate_line (first_record input) count (take size (take (length input - place) (drop place input)))) next after
+    → length after ≡ length room → Filled input from count_from all after next (place + size) (count + 1)
+filled_more {input} {room} {after} {from} {count_from} {all} {end} {place} {count} size more is far sound short room_left put same_length =
+    let certificate = take size (take (length input - place) (drop place input)) in
+    let line = certificate_line (first_record input) count certificate in
+    let line_few : length line ≤ 282 = line_short input place size more is count sound short far.counted in
+    record {
+      within = size_within input place size more is;
+      counted = omega (arith, far.counted, size_some input place size more is);
+      same = same_length ∙ far.same;
+      fits = omega (arith, put.end_is, far.same, line_few);
+      moved = omega (arith, put.end_is, far.moved, size_some input place size more is, line_few);
+      whole =
+          far.whole ∙ ap (λ (l : List ℕ). take end room ++ l) (line_first input place size more is count)
+          ∙ sym (append_assoc (take end room) line (to_come input (place + size) (count + 1)))
+          ∙ ap (λ (l : List ℕ). l ++ to_come input (place + size) (count + 1)) (sym (longer_front room end line put (omega (arith, far.same, far.fits))));
+    }
 
 -- what was put is a part
 pub filled_begins : {input room : List ℕ} {from count_from size end place count n m : ℕ} → Filled input from count_from size room end place count → length input ≤ 65_536

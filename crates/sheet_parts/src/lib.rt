@@ -6,6 +6,9 @@ ghost use Rattle.std.specs.Prelude.{◌≤◌, ◌<◌, ◌≡◌, length};
 ghost use Rattle.sheet_text.specs.Sheets.{sheet_text};
 ghost use Rattle.sheet_parts.specs.Parts.{to_come, Goes_on, Begins};
 
+use decimal::Text;
+use judge::SoundLoop;
+
 // A part that was put into a room: its bytes, the place in the input from which on the certificates have no line yet, the count of the
 // next one, and the loop's n and m.
 #[derive(Clone, Copy)]
@@ -41,7 +44,9 @@ pub fn first_part(input: &[u8], room: &mut [u8]) -> Part
     }
     let end = record_parting::first_end(input);
     let loopbytes = &input[..end];
-    let written = sheet_put::put_judged(room, loopbytes, &input[..0]);
+    let mut text = Text { room, at: 0 };
+    sheet_put::put_judged(&mut text, loopbytes, &input[..0]);
+    let written = text.at;
     match record_check::check_loop(loopbytes) {
         Ok(found) => Part {
             written,
@@ -63,28 +68,30 @@ pub fn next_part(input: &[u8], last: Part, room: &mut [u8]) -> Part
     ensures place_lt_place { last.place < result.place }
 {
     let end = record_parting::first_end(input);
-    let loopbytes = &input[..end];
-    let n = last.n;
-    let m = last.m;
-    let mut written = 0;
+    let looped = SoundLoop {
+        bytes: &input[..end],
+        n: last.n,
+        m: last.m,
+    };
+    let mut text = Text { room, at: 0 };
     let mut place = last.place;
     let mut count = last.count;
     // a `for` over `Records`, with a break, was tried, and its proof did not close
     while place < input.len() {
-        if room.len() - written < 306 {
+        if text.room.len() - text.at < 306 {
             break;
         }
         let rest = &input[place..];
         let size = record_parting::first_end(rest);
-        written = sheet_put::put_certificate(room, written, loopbytes, n, m, count, &rest[..size]);
+        sheet_put::put_certificate(&mut text, looped, count, &rest[..size]);
         place += size;
         count += 1;
     }
     Part {
-        written,
+        written: text.at,
         place,
         count,
-        n,
-        m,
+        n: last.n,
+        m: last.m,
     }
 }

@@ -2,70 +2,59 @@
 // judged, and its line is put into the room, as the definitions of `sheet_text` say.
 #![tactic(auto)]
 
-ghost use Rattle.std.specs.Prelude.{◌+◌, ◌≤◌, length};
+ghost use Rattle.std.specs.Prelude.{◌≤◌, length};
 ghost use Rattle.decimal.specs.Rooms.{Puts};
+ghost use Rattle.decimal.specs.Texts.{HasRoom, Appends};
 ghost use Rattle.record.specs.Readers.{sound};
 ghost use Rattle.refusal.specs.Tests.{first};
 ghost use Rattle.verdict.specs.Pairs.{loop_record};
-ghost use Rattle.judge.specs.SoundPairs.{LoopSound};
 ghost use Rattle.record_parting.specs.Parting.{records};
 ghost use Rattle.sheet_text.specs.Sheets.{certificate_line, lines, judged, sheet_text};
 
+use decimal::Text;
+use judge::SoundLoop;
+use record_check::Checked;
 use record_parting::Records;
 
-// Judges a certificate for a sound loop of n variables and m rows, and writes its line.
-pub fn put_certificate(
-    text: &mut [u8],
-    place: usize,
-    loopbytes: &[u8],
-    n: usize,
-    m: usize,
-    count: usize,
-    certificate: &[u8],
-) -> usize
-    requires loop_sound { LoopSound loopbytes.now n m }
-    requires certificate_in_bounds { place + length (certificate_line loopbytes.now count certificate.now) ≤ length text.old }
-    ensures { Puts text.old place (certificate_line loopbytes.now count certificate.now) result text.new }
+// Judges a certificate for a sound loop, and writes its line.
+pub fn put_certificate(text: &mut Text<'_>, looped: SoundLoop, count: usize, certificate: &[u8])
+    requires { HasRoom text.old (certificate_line looped.bytes.now count certificate.now) }
+    ensures { Appends text.old (certificate_line looped.entry.bytes.now count certificate.now) text.new }
 {
     let mut rank = [0i64; 16];
-    let v = judge_short::judge_sound(loopbytes, n, m, certificate, &mut rank);
-    sheet_write_lines::put_line(text, place, count, v, &rank[..n])
+    let v = judge_short::judge_sound(looped, certificate, &mut rank);
+    sheet_write_lines::put_line(text, count, v, &rank[..looped.n]);
 }
 
 // Writes a line for each certificate of a sound loop, with its count from 1.
-fn put_certificates(
-    text: &mut [u8],
-    place: usize,
-    loopbytes: &[u8],
-    n: usize,
-    m: usize,
-    certificates: &[u8],
-) -> usize
-    requires loop_sound { LoopSound loopbytes.now n m }
-    requires certificates_in_bounds { place + length (lines loopbytes.now 1 (records certificates.now)) ≤ length text.old }
-    ensures { Puts text.old place (lines loopbytes.now 1 (records certificates.now)) result text.new }
+fn put_certificates(text: &mut Text<'_>, looped: SoundLoop, certificates: &[u8])
+    requires { HasRoom text.old (lines looped.bytes.now 1 (records certificates.now)) }
+    ensures { Appends text.old (lines looped.entry.bytes.now 1 (records certificates.now)) text.new }
 {
-    let mut at = place;
     let mut count = 1;
     for certificate in Records(certificates) {
-        at = put_certificate(text, at, loopbytes, n, m, count, certificate);
+        put_certificate(text, looped, count, certificate);
         count += 1;
     }
-    at
 }
 
 // Writes the text of a loop record and the certificates after it.
-pub fn put_judged(text: &mut [u8], loopbytes: &[u8], certificates: &[u8]) -> usize
-    requires { length (judged (first sound (loop_record loopbytes.now)) loopbytes.now certificates.now) ≤ length text.old }
-    ensures { Puts text.old 0 (judged (first sound (loop_record loopbytes.now)) loopbytes.now certificates.now) result text.new }
+pub fn put_judged(text: &mut Text<'_>, loopbytes: &[u8], certificates: &[u8])
+    requires { HasRoom text.old (judged (first sound (loop_record loopbytes.now)) loopbytes.now certificates.now) }
+    ensures { Appends text.old (judged (first sound (loop_record loopbytes.now)) loopbytes.now certificates.now) text.new }
 {
-    let at = sheet_write_lines::put_bytes(text, 0, b"loop ");
+    text.put_bytes(b"loop ");
     match record_check::check_loop(loopbytes) {
-        Ok(found) => {
-            let at = sheet_write_lines::put_pair(text, at, found.n, found.m);
-            put_certificates(text, at, loopbytes, found.n, found.m, certificates)
+        Ok(Checked { n, m, .. }) => {
+            sheet_write_lines::put_pair(text, n, m);
+            let looped = SoundLoop {
+                bytes: loopbytes,
+                n,
+                m,
+            };
+            put_certificates(text, looped, certificates);
         }
-        Err(fault) => sheet_write_lines::put_refusal(text, at, fault.number, fault.place),
+        Err(fault) => sheet_write_lines::put_refusal(text, fault.number, fault.place),
     }
 }
 
@@ -74,9 +63,12 @@ pub fn put_sheet(text: &mut [u8], input: &[u8]) -> usize
     requires { length (sheet_text input.now) ≤ length text.old }
     ensures { Puts text.old 0 (sheet_text input.now) result text.new }
 {
+    let mut text = Text { room: text, at: 0 };
     if input.len() > 65536 {
-        return sheet_write_lines::put_bytes(text, 0, b"input too long\n");
+        text.put_bytes(b"input too long\n");
+        return text.at;
     }
     let end = record_parting::first_end(input);
-    put_judged(text, &input[..end], &input[end..])
+    put_judged(&mut text, &input[..end], &input[end..]);
+    text.at
 }

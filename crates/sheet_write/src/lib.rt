@@ -18,6 +18,7 @@ pub fn room_needed(size: usize) -> usize
 }
 
 // Writes the text of a sheet. Room is tested first, against the worst case of the input's size.
+#[tactic(auto, using(sheet_text::proofs::TextLaws::no_room, sheet_text::proofs::TextLaws::enough, sheet_text::proofs::WorstCase::never_longer))]
 pub fn sheet(input: &[u8], text: &mut [u8]) -> Writing
     ensures value { result ≡ sheet_answers input.now text.old }
     ensures text_after { text.new ≡ room_after input.now text.old }
