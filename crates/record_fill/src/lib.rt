@@ -1,4 +1,5 @@
 // Filling a body: runs of values of one form, the parts of a body, and the body of each kind. Whoever calls has tested the values, and has room for them.
+// `record_values` reads the same parts, and says why there are two sets.
 #![tactic(auto, unfolding(record::specs::Fields::width, record::specs::Layouts::kind_of, record::specs::Layouts::length_of, record_fields::specs::Runs::value_count))]
 
 ghost use Rattle.std.specs.Prelude.{◌+◌, ◌*◌, ◌≤◌, ◌≡◌, true, [], ◌∷◌, ◌++◌, length, drop, replicate};

@@ -1,5 +1,5 @@
 // The list of values of a record, read from its bytes into a list that is long enough: runs of numbers of one form, parts of a body, a
-// whole list.
+// whole list. `record_fill` writes the same parts: what is done with a run, which list is lent and every clause differ, so they are no one set.
 #![tactic(auto, unfolding(record::specs::Fields::width, record::specs::Layouts::kind_of, record::specs::Layouts::length_of, record_fields::specs::Runs::value_count))]
 
 ghost use Rattle.std.specs.Prelude.{◌+◌, ◌*◌, ◌≤◌, ◌≡◌, [], ◌∷◌, ◌++◌, length, drop, replicate};
