@@ -85,3 +85,14 @@ counted_more bytes left first next size alike six left_is parts long states coun
     let end : (alike + 1) * size ≡ at + size = omega arith in
     let next_is : next ≡ drop (at + size) bytes = sym (ap (drop size) (sym left_is ∙ parts) ∙ drop_at first next size long) ∙ drop-drop size at bytes in
     rw end (next_is, (omega arith, omega arith, omega (arith, counted.2, one_record_more bytes at (at + size) (rw takes) (omega arith))))
+
+-- what a record at a place states, and that it takes as many bytes, if they are there
+stated_at : (bytes : List ℕ) (at : ℕ) → stated (drop at bytes) ≡ little_at 4 bytes at
+unfolding stated little_at
+stated_at bytes at = refl
+
+pub takes_size : (bytes : List ℕ) (at size : ℕ) → 4 + little_at 4 bytes at ≡ size → 6 ≤ size → at + size ≤ length bytes → taken (drop at bytes) ≡ size
+takes_size bytes at size states six there =
+    let says = stated_at bytes at in
+    let left = length-drop at bytes in
+    taken_whole (drop at bytes) (omega (arith, left)) (omega (arith, says)) (omega (arith, left, says)) ∙ rw says states
