@@ -104,9 +104,11 @@ fn grade(certificate: &[u8], n: usize) -> Grade
     }
 }
 
-// ---- by the certificate's kind: its frame and kind are right, and the loop is sound
+// ---- by the certificate's kind: its frame and kind are right, and the loop is sound. These are put in place where they are called, so that
+// the loop is not handed on through memory
 
 // Kind 2: what else is wrong with the record, the rank list, and then the conditions.
+#[inline(always)]
 pub fn by_ranking(looped: SoundLoop, certificate: OfKind<2>, rank: &mut [i64]) -> Verdict
     ensures { Judged looped.entry.bytes.now certificate.entry.bytes.now rank.old result rank.new }
 {
@@ -117,6 +119,7 @@ pub fn by_ranking(looped: SoundLoop, certificate: OfKind<2>, rank: &mut [i64]) -
 }
 
 // Kind 3, which has no rank.
+#[inline(always)]
 pub fn by_exclusion(looped: SoundLoop, certificate: OfKind<3>) -> Verdict
     ensures { (lent : List ℤ) → Judged looped.entry.bytes.now certificate.entry.bytes.now lent result lent }
 {
@@ -127,6 +130,7 @@ pub fn by_exclusion(looped: SoundLoop, certificate: OfKind<3>) -> Verdict
 }
 
 // Kind 4.
+#[inline(always)]
 pub fn by_lasso(looped: SoundLoop, certificate: OfKind<4>, rank: &mut [i64]) -> Verdict
     ensures { Judged looped.entry.bytes.now certificate.entry.bytes.now rank.old result rank.new }
 {

@@ -40,7 +40,8 @@ fn judge_paths(loopbytes: &[u8], certificate: &[u8]) -> Verdict
     }
 }
 
-// A certificate of kind 8, for a loop record that has been checked.
+// A certificate of kind 8, for a loop record that has been checked. It is put in place as the judges of the other kinds are.
+#[inline(always)]
 pub fn settling_sound(looped: SoundLoop, certificate: &[u8], rank: &mut [i64]) -> Verdict
     ensures { SettlingJudged looped.entry.bytes.now certificate.now rank.old result rank.new }
 {

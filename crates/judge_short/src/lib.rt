@@ -19,6 +19,7 @@ pub fn is_short(certificate: &[u8]) -> bool
 }
 
 // A certificate of kind 7: the record that it stands for is sound as it is, so its conditions are asked at once.
+#[inline(always)]
 pub fn by_short(looped: SoundLoop, certificate: &[u8], rank: &mut [i64]) -> Verdict
     requires { of_short certificate.now ≡ true }
     ensures { (result ≡ judged_or_short looped.entry.bytes.now certificate.now rank.old)
