@@ -17,7 +17,7 @@ use judge_ranking::Ranked;
 use record_check::OfKind;
 use verdict::{Bounded, Outcome};
 
-// A refusal, as judging makes it: it has no bound.
+// A refusal, in the fields of a bound's answer, as judging makes it: it has no bound.
 pub fn refused(about: usize, number: usize, place: usize) -> Bounded
     ensures { result ≡ no_bound about number place }
 {

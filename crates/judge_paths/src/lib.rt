@@ -21,7 +21,7 @@ use path::{Held, Path};
 use refusal::Fault;
 
 impl<'c> Held<'c> {
-    // Whether column j's totals are -r and next times r.
+    // Whether column j's totals are -r and next times r: a condition of paths alone.
     fn column_holds(self, sums: Lifted, j: usize) -> bool
         requires { (j < sums.n) × (sums.n ≤ self.n) }
         ensures { result ≡ column_meets sums.entry self.entry j }

@@ -27,7 +27,7 @@ pub struct Ranked {
     pub fall: i64,
 }
 
-// Whether the first three conditions hold at one column.
+// Whether the first three conditions hold at one column. Other judges' columns have other conditions, so each has a struct of its own.
 #[derive(Clone, Copy)]
 struct ColumnHolds {
     first: bool,
@@ -209,7 +209,7 @@ fn over<const WIDTH: usize>(
     Totals { y, z }.ranked(beside.y.right, beside.z.right, rank)
 }
 
-// Kind 2: the totals, and what they tell.
+// Kind 2: the totals, and what they tell. Y and Z lie at fixed places of the record, so `Multipliers` is made of them here.
 pub fn ranking(rows: Rows, certificate: &[u8], rank: &mut [i64]) -> Result<Ranked, Fault>
     requires { (rows.n ≤ 16) × (rows.count ≤ 64) × MultipliersIn certificate.now (6 + 2 * rows.count) rows.count
         × (rows.n ≤ length rank.old) }

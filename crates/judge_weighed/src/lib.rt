@@ -52,7 +52,8 @@ fn column_holds(rows: Rows, j: usize, certificate: &[u8], held: Held) -> ColumnH
     }
 }
 
-// The first that fails: a column over A (`number`), a column over A' (the next number), the right sides (the one after it).
+// The first that fails: a column over A (`number`), a column over A' (the next number), the right sides (the one after it). The number is that of
+// a refusal in the paper's list, as its caller's condition has it. Where the weights lie is one of `Held`'s places, so `Multipliers` is made here, of both.
 pub fn weighed(rows: Rows, certificate: &[u8], held: Held, number: usize) -> Result<(), Fault>
     requires { (rows.count ≤ 64) × MultipliersIn certificate.now held.weights rows.count
         × (held.v + 2 * rows.n ≤ length certificate.now) × (held.v < 65536) × (rows.n ≤ 16)

@@ -15,7 +15,7 @@ ghost use Rattle.streams.specs.SystemAnswers.{passes, step_of, moved, IsPrefixLe
 use std::io::{ErrorKind, Read, Write};
 use std::{hint, io};
 
-// What a read or a write did.
+// What a read or a write did: four cases, none of them an error alone, so it is no `Result`.
 #[derive(Clone, Copy)]
 enum Step {
     Moved(usize),
