@@ -9,20 +9,17 @@ use native.Mathlib.Omega.{arith}
 use lib.IntN.{ℤ, pos, negsuc, nat_abs, neg_ℤ, ◌+ℤ◌, ◌-ℤ◌, ◌*ℤ◌, +ℤ_idr, *ℤ-zero}
 use lib.ListN.{length, get_or, set, length-set, get_or-replicate, get_or-map}
 use lib.Seq.{get_or-set_same, get_or-set_other}
-use mir.Syntax.{w64}
-use mir.Val.{SFits, of_z, to_z}
-use mir.Facts.{to_z-of_z}
 use Rattle.whole.specs.Rows.{Row}
 use Rattle.whole.specs.Sums.{dot, sum, tabulate, scale}
 use Rattle.whole.proofs.Ring.{*ℤ-neg}
-use Rattle.whole.proofs.Size.{abs_add, abs_neg, abs_product, fits_abs, back}
+use Rattle.whole.proofs.Size.{abs_add, abs_neg, abs_product}
 use Rattle.whole.proofs.Solve.{v, ◌⊝◌, ◌⊗◌, neg, solve}
 use Rattle.whole.proofs.SumLaws.{sum_append}
 use Rattle.whole.proofs.Tables.{length_tabulate, tabulate_more}
 use Rattle.endian.specs.Numbers.{little_at}
 use Rattle.judge_sums.specs.Lists.{multipliers_from, entries_from, rows_from}
 use Rattle.judge_sums.specs.Places.{entry_at, multiplier_at, right_term, lift_term, ColumnOf, SumsOf, AllModest, most_entry, most_right}
-use Rattle.judge_sums.specs.Running.{CanGrow, Modest, SumOf}
+use Rattle.judge_sums.specs.Running.{Modest, SumOf}
 use Rattle.judge_sums.specs.declared.rows.Rows.{Rows}
 use Rattle.judge_sums.proofs.LiftLaws.{sums_size, column_in}
 use Rattle.theory.specs.Loops.{A, A', b}
@@ -32,7 +29,7 @@ use Rattle.judge_conditions.specs.LoopHeld.{loop_held}
 use Rattle.judge_ranking.specs.RankingHeld.{ranking_held}
 use Rattle.judge_longer.specs.LongerHeld.{longer_held, longer_of}
 use Rattle.judge_conditions.proofs.Totals.{entry_is}
-use Rattle.judge_conditions.proofs.Totals.{now_is, next_is, right_is, right_small}
+use Rattle.judge_conditions.proofs.Totals.{now_is, next_is, right_is}
 
 -- ---- one row more
 
@@ -97,26 +94,6 @@ module _ (rows certificate : List ℕ) (start n m place s : ℕ) (right : ℤ) w
   unfolding multiplier_at
   rights_longer last total term told is more =
       rw (more, told, right_is certificate place rows start n m total is) (sym right_added)
-
--- as both are passed on, their sum fits and can grow
-module _ {m : ℕ} {terms : ℕ → ℤ} (few : m ≤ 64) (total term : ℤ) (is : SumOf m most_right terms total) (small : nat_abs term ≤ most_right) where
-  abbrev added : ℤ
-  added = to_z w64 (of_z w64 total) +ℤ to_z w64 (of_z w64 term)
-
-  total_small : nat_abs total ≤ 9147797156659200
-  total_small = right_small m terms total (omega (arith, few)) is
-
-  added_is : added ≡ total +ℤ term
-  added_is = rw (back {z = total} (omega (arith, total_small)), back {z = term} (omega (arith, small))) refl
-
-  pub rights_fit : SFits w64 added
-  rights_fit = rw added_is (fits_abs (omega (arith, abs_add total term, total_small, small)))
-
-  pub rights_added : to_z w64 (of_z w64 added) ≡ total +ℤ term
-  rights_added = to_z-of_z rights_fit ∙ added_is
-
-  pub rights_grow : CanGrow (to_z w64 (of_z w64 added))
-  rights_grow = rw rights_added (omega (arith, abs_add total term, total_small, small))
 
 -- ---- the added row's terms, taken from a list of totals one after another
 

@@ -12,6 +12,17 @@ ghost use Rattle.judge_longer.specs.LongerHeld.{RowTaken, longer_of};
 use judge_ranking::{Lifted, Ranked, Totals};
 use judge_sums::{Multipliers, Rows};
 use refusal::Fault;
+use whole::Total;
+
+// A total less a multiplier times an entry: one row more, which is minus that entry.
+fn less_times(total: i64, k: usize, z: i64) -> i64
+    requires { Modest total × (k < 65536) × (nat_abs z ≤ 32768) }
+    ensures { (result ≡ total -ℤ pos k *ℤ z) × (nat_abs result ≤ nat_abs total + 2147450880) }
+{
+    let sum = Total { sum: total };
+    let less = sum.plus(k as i64, -z);
+    less.sum
+}
 
 // The added row, whose entries are minus those from a place on: each of the first n totals less the row's multiplier times its entry.
 fn take_row(sums: &mut [i64], n: usize, multiplier: usize, certificate: &[u8], s: usize)
@@ -20,11 +31,18 @@ fn take_row(sums: &mut [i64], n: usize, multiplier: usize, certificate: &[u8], s
     ensures { RowTaken multiplier certificate.now s n sums.old sums.new }
 {
     for j in 0..n {
-        sums[j] -= judge_conditions::times(
-            multiplier as i64,
-            endian::i16_at(certificate, s + 2 * j),
-        );
+        sums[j] = less_times(sums[j], multiplier, endian::i16_at(certificate, s + 2 * j));
     }
+}
+
+// A total and a multiplier times a right side: one row more.
+fn and_times(total: i64, k: usize, z: i64) -> i64
+    requires { (nat_abs total ≤ 9147797156659200) × (k < 65536) × (nat_abs z ≤ 2147483648) }
+    ensures { (result ≡ total +ℤ pos k *ℤ z) × CanGrow result }
+{
+    let sum = Total { sum: total };
+    let more = sum.plus(k as i64, z);
+    more.sum
 }
 
 // The four conditions over the loop with the added row -s·x <= right: the loop's totals in one visit of each row, the added row's terms,
@@ -62,8 +80,8 @@ pub fn longer_ranking(
     let beside = judge_sums::add_rows(&mut ys, &mut zs, rows, under_y, under_z);
     take_row(&mut ys, rows.n, y_last, certificate, s);
     take_row(&mut zs, rows.n, z_last, certificate, s);
-    let yb = beside.y.right + judge_conditions::times(y_last as i64, right);
-    let zb = beside.z.right + judge_conditions::times(z_last as i64, right);
+    let yb = and_times(beside.y.right, y_last, right);
+    let zb = and_times(beside.z.right, z_last, right);
     let y = Lifted {
         sums: &ys,
         n: rows.n,
