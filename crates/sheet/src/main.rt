@@ -3,7 +3,7 @@
 // by one line on standard error; a read that fails prints no text.
 #![tactic(auto)]
 
-ghost use Rattle.std.specs.Prelude.{◌+◌, ◌≤◌, ◌≡◌, length, take, drop, IfSome, IfOk, OnOk};
+ghost use Rattle.std.specs.Prelude.{◌+◌, ◌≤◌, ◌≡◌, length, take, drop, IfSome, IfOk, IfErr, OnOk};
 ghost use Rattle.std.specs.Io.KnownBytes.{Appends};
 ghost use Rattle.sheet_text.specs.Sheets.{sheet_text};
 ghost use Rattle.sheet_parts.specs.Parts.{Next};
@@ -28,26 +28,31 @@ fn part_room() -> [u8; 16384]
     [0; 16384]
 }
 
-// Hands on a part, which comes next in the text after the bytes that were handed on before, and counts the bytes that were taken. Nothing else
-// writes to standard output.
+// Hands on a part, which comes next in the text after the bytes that were handed on before, and counts the bytes that were taken. The count is
+// lent, so that no part is handed on twice where an answer is forgotten. Nothing else writes to standard output.
 fn hand_on<W: Write, E: Write>(
     output: &mut W,
     errors: &mut E,
     input: &[u8],
-    done: usize,
+    done: &mut usize,
     part: &[u8],
-) -> Result<usize, Stopped>
-    requires { (done ≤ length (sheet_text input.now)) × Next (sheet_text input.now) done part.now }
-    ensures counted { IfOk result (λ to. to ≡ done + length part.now) }
-    ensures grows { done ≤ moved result }
+) -> Result<(), Stopped>
+    requires { (done.old ≤ length (sheet_text input.now)) × Next (sheet_text input.now) done.old part.now }
+    ensures counted { OnOk result (done.new ≡ done.old + length part.now) }
+    ensures stopped { IfErr result (λ stopped. stopped.size ≡ done.new) }
+    ensures grows { done.old ≤ done.new }
     ensures bytes { Appends (W.contents output.old) (W.contents output.new)
-        (drop done (take (moved result) (sheet_text input.now))) }
+        (drop done.old (take done.new (sheet_text input.now))) }
 {
     match streams::write_text(output, errors, part, b"sheet: cannot write standard output") {
-        Ok(()) => Ok(done + part.len()),
-        Err(stopped) => Err(Stopped {
-            size: done + stopped.size,
-        }),
+        Ok(()) => {
+            *done += part.len();
+            Ok(())
+        }
+        Err(stopped) => {
+            *done += stopped.size;
+            Err(Stopped { size: *done })
+        }
     }
 }
 
@@ -65,7 +70,7 @@ fn print_sheet<W: Write, E: Write>(
     let mut part = sheet_parts::first_part(input, &mut room);
     let mut done = 0;
     loop {
-        done = hand_on(output, errors, input, done, &room[..part.written])?;
+        hand_on(output, errors, input, &mut done, &room[..part.written])?;
         if part.place >= input.len() {
             return Ok(done);
         }

@@ -6,10 +6,10 @@ use Rattle.sheet_text.specs.Sheets.{sheet_text}
 use Rattle.sheet_parts.specs.Parts.{Begins}
 use Rattle.sheet.proofs.print_sheet.Given as goal
 
-abbrev pub invariant-loop-done : goal.invariant-loop-done
-invariant-loop-done g l =
+abbrev pub invariant-loop-room : goal.invariant-loop-room
+invariant-loop-room g l =
     (l.done ≤ length (sheet_text l.input)) × (length l.room ≡ 16_384) × Begins (drop l.done (sheet_text l.input)) l.input l.room l.part
     × Appends (g.W.Write.contents l.initial.output) (g.W.Write.contents l.output) (take l.done (sheet_text l.input))
 
-abbrev pub decreases-loop-done : goal.decreases-loop-done
-decreases-loop-done g l = length l.input - l.part.place
+abbrev pub decreases-loop-room : goal.decreases-loop-room
+decreases-loop-room g l = length l.input - l.part.place
