@@ -68,6 +68,17 @@ module _ (bytes : List ℕ) where
       ap length (records_more left (omega (arith, length-drop from bytes)))
       ∙ ap (λ rest. suc (length (records rest))) (drop-drop (taken left) from bytes ∙ ap (λ k. drop k bytes) (sym is))
 
+-- what a record at a place states, and that it takes as many bytes, if they are there
+stated_at : (bytes : List ℕ) (at : ℕ) → stated (drop at bytes) ≡ little_at 4 bytes at
+unfolding stated little_at
+stated_at bytes at = refl
+
+pub takes_size : (bytes : List ℕ) (at size : ℕ) → 4 + little_at 4 bytes at ≡ size → 6 ≤ size → at + size ≤ length bytes → taken (drop at bytes) ≡ size
+takes_size bytes at size states six there =
+    let says = stated_at bytes at in
+    let left = length-drop at bytes in
+    taken_whole (drop at bytes) (omega (arith, left)) (omega (arith, says)) (omega (arith, left, says)) ∙ rw says states
+
 -- so many records in front take `size` bytes each
 abbrev pub Counted : List ℕ → ℕ → ℕ → Type 0
 Counted bytes size alike = (alike ≤ alike * size) × (alike * size ≤ length bytes) × (alike + length (records (drop (alike * size) bytes)) ≡ length (records bytes))
@@ -81,18 +92,8 @@ counted_more bytes left first next size alike six left_is parts long states coun
     let room : length left ≡ size + length next = ap length parts ∙ length-append first next ∙ ap (λ k. k + length next) long in
     let bytes_left : length left ≡ length bytes - at = ap length left_is ∙ length-drop at bytes in
     let same : stated left ≡ little_at 4 first 0 = ap (λ (b : List ℕ). little_at 4 b 0) parts ∙ little_at_first 4 first next 0 (omega arith) in
-    let takes : taken (drop at bytes) ≡ size = ap taken (sym left_is) ∙ taken_whole left (omega arith) (omega arith) (omega arith) ∙ omega arith in
+    let here : little_at 4 bytes at ≡ little_at 4 first 0 = sym (stated_at bytes at) ∙ ap stated (sym left_is) ∙ same in
+    let takes : taken (drop at bytes) ≡ size = takes_size bytes at size (ap (λ k. 4 + k) here ∙ states) six (omega arith) in
     let end : (alike + 1) * size ≡ at + size = omega arith in
     let next_is : next ≡ drop (at + size) bytes = sym (ap (drop size) (sym left_is ∙ parts) ∙ drop_at first next size long) ∙ drop-drop size at bytes in
     rw end (next_is, (omega arith, omega arith, omega (arith, counted.2, one_record_more bytes at (at + size) (rw takes) (omega arith))))
-
--- what a record at a place states, and that it takes as many bytes, if they are there
-stated_at : (bytes : List ℕ) (at : ℕ) → stated (drop at bytes) ≡ little_at 4 bytes at
-unfolding stated little_at
-stated_at bytes at = refl
-
-pub takes_size : (bytes : List ℕ) (at size : ℕ) → 4 + little_at 4 bytes at ≡ size → 6 ≤ size → at + size ≤ length bytes → taken (drop at bytes) ≡ size
-takes_size bytes at size states six there =
-    let says = stated_at bytes at in
-    let left = length-drop at bytes in
-    taken_whole (drop at bytes) (omega (arith, left)) (omega (arith, says)) (omega (arith, left, says)) ∙ rw says states
