@@ -78,6 +78,10 @@ module _ (r : Reader) where
   unfolding sound
   frame_refuses f told = says (first_told framing (drop 4 sound) r f.number f.place (told_refused (first framing r) tt f told))
 
+  -- such a refusal has nothing but its number and place
+  pub frame_only : (f : Fault) → stopped f ≡ result_of (first framing r) tt → unframed f.number f.place ≡ stopped f
+  frame_only f told = refl
+
   pub frame_passes : right ≡ result_of (first framing r) tt → Framed r.bytes
   unfolding sound stated_length
   frame_passes told =

@@ -1,6 +1,6 @@
 -- What a check answers: the tests `sound` of 01's order for a record, and what the record says of itself. No list is lent, so a check's
 -- reader has no room.
-use Rattle.std.specs.Prelude.{ℕ, ◌+◌, ◌≤◌, ◌≡◌, true, ◌&&◌, List, pos, length, Result}
+use Rattle.std.specs.Prelude.{ℕ, ◌≡◌, true, ◌&&◌, List, pos, Result}
 use Rattle.endian.specs.Numbers.{little_at}
 use Rattle.refusal.specs.declared.Fault.{Fault}
 use Rattle.refusal.specs.Faults.{result_of}

@@ -176,3 +176,18 @@ pub fn check_certificate(bytes: &[u8], n: usize, m: usize, wanted: Wanted) -> Re
         _ => refused(4, 4),
     }
 }
+
+// The same where rankings alone are wanted. It stands by itself, so that `check_certificate` has the reader as its one caller and is put in place
+// there.
+pub fn check_ranking(bytes: &[u8], n: usize, m: usize) -> Result<Checked, Fault>
+    ensures { result ≡ checks (certificate_check (record { ranking = true; exclusion = false; lasso = false }) bytes.now n m) }
+{
+    frame(bytes)?;
+    if endian::u16_at(bytes, 4) != 2 {
+        return refused(4, 4);
+    }
+    if !record_faults::arguments_fit(n, m) {
+        return refused(5, 0);
+    }
+    ranking_record(OfKind { bytes }, n, m)
+}

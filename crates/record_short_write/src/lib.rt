@@ -15,7 +15,7 @@ mod ranking;
 mod short;
 
 use ranking::SoundRanking;
-use record::{Wanted, Writing};
+use record::Writing;
 use refusal::{Fault, refused};
 use short::SoundShort;
 
@@ -102,7 +102,13 @@ impl SoundRanking<'_> {
     fn rows_counted(self) -> usize
         ensures { result ≡ triples_needed self.entry.m self.entry.bytes.now }
     {
-        (0..self.m).filter(|i| self.has_weight(*i)).count()
+        let mut count = 0;
+        for i in 0..self.m {
+            if self.has_weight(i) {
+                count += 1;
+            }
+        }
+        count
     }
 
     // The triple of row i at a place, if it has weight; where the next one goes.
@@ -151,12 +157,7 @@ fn shortened(bytes: &[u8], n: usize, m: usize, room: &mut [u8]) -> Result<usize,
     ensures value { result ≡ result_of (shortening_told bytes.now n m room.old) (8 + 6 * triples_needed m bytes.now) }
     ensures left { room.new ≡ shortened_room bytes.now n m room.old }
 {
-    let rankings = Wanted {
-        ranking: true,
-        exclusion: false,
-        lasso: false,
-    };
-    record_check::check_certificate(bytes, n, m, rankings)?;
+    record_check::check_ranking(bytes, n, m)?;
     let found = SoundRanking { bytes, m };
     let count = found.rows_counted();
     let long = 8 + 6 * count;
