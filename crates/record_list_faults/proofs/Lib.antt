@@ -1,1 +1,2 @@
 pub mod ListedFields
+pub mod ListRuns

@@ -1,6 +1,10 @@
 // The list of values that a record is to be written of, as a source: it is walked, and a fault's place is where the record would have it.
+// What of a run is found in range four values at a time is passed over before the walk.
 #![tactic(auto)]
 
+ghost use Rattle.std.specs.Prelude.{◌+◌, ◌≤◌, ◌<◌, ◌≡◌, true, pos, length, get_or, drop, replicate};
+ghost use Rattle.record.specs.Fields.{in_range};
+ghost use Rattle.record.specs.Ranges.{within};
 ghost use Rattle.record_list_faults.specs.ListAnswers.{list_answer, list_has, list_in_parts};
 
 use crate::between;
@@ -15,6 +19,14 @@ pub struct InList<'a> {
     pub place: usize,
 }
 
+// The value at an index is in the field's range.
+fn value_fits<F: BodyField>(values: &[i64], index: usize) -> bool
+    requires { index < length values.now }
+    ensures { result ≡ within F.field.range (get_or values.now index (pos 0)) }
+{
+    between(values[index], F::LEAST, F::MOST)
+}
+
 impl Numbers for InList<'_> {
     ghost answer = { list_answer };
 
@@ -23,7 +35,7 @@ impl Numbers for InList<'_> {
     ghost parts = { list_in_parts };
 
     fn field_fault<F: BodyField>(self) -> Result<Self, Fault> {
-        if between(self.values[self.index], F::LEAST, F::MOST) {
+        if value_fits::<F>(self.values, self.index) {
             Ok(InList {
                 values: self.values,
                 index: self.index + 1,
@@ -35,8 +47,39 @@ impl Numbers for InList<'_> {
     }
 }
 
+// Four values, from an index on, are.
+fn four_fit<F: BodyField>(values: &[i64], index: usize) -> bool
+    requires { index + 4 ≤ length values.now }
+    ensures { result ≡ in_range (replicate 4 F.field) (drop index values.now) }
+{
+    value_fits::<F>(values, index)
+        & value_fits::<F>(values, index + 1)
+        & value_fits::<F>(values, index + 2)
+        & value_fits::<F>(values, index + 3)
+}
+
+// How many values at the head of a run are, as far as fours of them tell. Only a count goes from four to four.
+fn fours_fit<F: BodyField>(values: &[i64], index: usize, count: usize) -> usize
+    requires { index + count ≤ length values.now }
+    ensures at_most { result ≤ count }
+    ensures fit { in_range (replicate result F.field) (drop index values.now) ≡ true }
+{
+    for i in 0..count / 4 {
+        if !four_fit::<F>(values, index + 4 * i) {
+            return 4 * i;
+        }
+    }
+    4 * (count / 4)
+}
+
 impl Source for InList<'_> {
     fn run_fault<F: BodyField>(self, count: usize) -> Result<Self, Fault> {
-        walk::<Self, F>(self, count)
+        let ahead = fours_fit::<F>(self.values, self.index, count);
+        let rest = InList {
+            values: self.values,
+            index: self.index + ahead,
+            place: self.place + ahead * F::WIDE,
+        };
+        walk::<Self, F>(rest, count - ahead)
     }
 }
