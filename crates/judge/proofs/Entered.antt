@@ -2,10 +2,10 @@
 use Rattle.std.specs.Prelude.{Ok, Err}
 use mathlib.Core.Path.{◌≡◌, refl, ap, ◌∙◌}
 use Prim.Native.Nat.{ℕ}
-use mathlib.Core.Bool.{Bool}
+use mathlib.Core.Bool.{Bool, true}
 use mathlib.Core.List.{List, []}
 use Rattle.endian.specs.Numbers.{little_at}
-use Rattle.record.specs.Layouts.{Kind, kind_of}
+use Rattle.record.specs.Layouts.{Kind, kind_of, has_rank}
 use Rattle.record.specs.Readers.{Reader, kind, kind_number, sound, loop_reader}
 use Rattle.refusal.specs.declared.Fault.{Fault}
 use Rattle.refusal.specs.Tests.{refused, first}
@@ -13,7 +13,7 @@ use Rattle.record_check.specs.Checks.{said, checks}
 use Rattle.record_check.specs.declared.Checked.{Checked}
 use Rattle.record_check.proofs.CheckAnswers as Answers
 use Rattle.verdict.specs.Pairs.{loop_record, certificate_record}
-use Rattle.judge.specs.SoundPairs.{LoopSound, CertificateSound, LassoSound}
+use Rattle.judge.specs.SoundPairs.{LoopSound, CertificateSound, RankSound, LassoSound}
 
 -- ---- the loop
 
@@ -54,6 +54,10 @@ module _ (wants : Kind → Bool) (loopbytes : List ℕ) (n m : ℕ) (l : LoopSou
       unfolding kind kind_number certificate_record
       sound_by = record { told = Answers.accepted r v (is ∙ same_certificate); kind_is = ap kind_of numbered }
 
+      pub rank_sound_by : has_rank (kind_of number) ≡ true → RankSound wants loopbytes certificate number v.ms
+      unfolding said
+      rank_sound_by ranked = record { as_kind = sound_by; ms_is = ap (λ x. x.ms) all; ranks = ranked }
+
     pub lasso_sound_by : little_at 2 certificate 4 ≡ 4 → LassoSound wants loopbytes certificate v.ms
-    unfolding said kind_of
-    lasso_sound_by numbered = record { as_kind = sound_by 4 numbered; ms_is = ap (λ x. x.ms) all }
+    unfolding kind_of has_rank
+    lasso_sound_by numbered = let s = rank_sound_by 4 numbered refl in record { as_kind = s.as_kind; ms_is = s.ms_is }

@@ -1,8 +1,8 @@
 -- What the judge's functions are told of the records: that they are sound, with the loop's counts and the certificate's kind; and what
 -- they tell of them.
-use Rattle.std.specs.Prelude.{ℕ, Bool, cond, ◌≡◌, List, ℤ, Result, Ok, Err}
+use Rattle.std.specs.Prelude.{ℕ, Bool, true, cond, ◌≡◌, List, ℤ, Result, Ok, Err}
 pub use Rattle.judge.specs.LoopSound.{LoopSound, first_row}
-use Rattle.record.specs.Layouts.{Kind, loop, ranking, exclusion, lasso, other, is_lasso}
+use Rattle.record.specs.Layouts.{Kind, loop, ranking, exclusion, lasso, other, kind_of, has_rank, is_lasso}
 use Rattle.record.specs.Readers.{kind, counts_read, sound}
 use Rattle.refusal.specs.Tests.{done, first}
 use Rattle.refusal.specs.declared.Fault.{Fault}
@@ -24,6 +24,12 @@ use Rattle.judge_ranking.specs.declared.Ranked.{Ranked}
 pub record CertificateSound (wants : Kind → Bool) (loopbytes bytes : List ℕ) (k : Kind) : Type 0 where
   pub told : first sound (certificate_record wants (loop_record loopbytes) bytes) ≡ done
   pub kind_is : kind (certificate_record wants (loop_record loopbytes) bytes) ≡ k
+
+-- one that has a rank, with its kind's number and its count of stem rows
+pub record RankSound (wants : Kind → Bool) (loopbytes bytes : List ℕ) (number ms : ℕ) : Type 0 where
+  pub as_kind : CertificateSound wants loopbytes bytes (kind_of number)
+  pub ms_is : ms ≡ (counts_read (certificate_record wants (loop_record loopbytes) bytes)).ms
+  pub ranks : has_rank (kind_of number) ≡ true
 
 -- a sound lasso for it, with its count of stem rows
 pub record LassoSound (wants : Kind → Bool) (loopbytes bytes : List ℕ) (ms : ℕ) : Type 0 where

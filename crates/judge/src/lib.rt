@@ -16,7 +16,7 @@ mod sound_loop;
 use judge_lasso::LassoRecord;
 use judge_ranking::Ranked;
 use record_check::OfKind;
-pub use sound_loop::SoundLoop;
+pub use sound_loop::{FIRST_ROW, SoundLoop};
 use verdict::{Grade, Outcome, Verdict};
 
 // What is accepted, with what it shows.

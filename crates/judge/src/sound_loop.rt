@@ -7,7 +7,7 @@ ghost use Rattle.judge.specs.LoopSound.{LoopSound, first_row};
 use judge_sums::Rows;
 
 // Where the first row of a loop record starts.
-const FIRST_ROW: usize = 10;
+pub const FIRST_ROW: usize = 10;
 
 #[derive(Clone, Copy)]
 pub struct SoundLoop<'a> {

@@ -57,7 +57,7 @@ pub fn settling_sound(looped: SoundLoop, certificate: &[u8], rank: &mut [i64]) -
     }
 }
 
-// Judges a certificate for a loop record that has been checked: its frame is the same for every kind, and its kind decides the rest. Slices are
+// Judges a certificate for a loop record that has been checked: its frame is the same for every kind, and its kind decides the rest. Its bytes are
 // handed on as `[..]`, in two parts: a copy of both at once would wait for the caller's stores.
 fn judge_certificate(looped: SoundLoop, certificate: &[u8], rank: &mut [i64]) -> Verdict
     ensures { (result ≡ answered looped.entry.bytes.now certificate.now rank.old)
