@@ -35,21 +35,27 @@ pub trait BodyField {
 }
 
 // m, ms
+#[derive(Clone, Copy)]
 pub struct RowCount;
 
 // An entry of A, A', B, B' or s.
+#[derive(Clone, Copy)]
 pub struct Entry;
 
 // b, d, s0
+#[derive(Clone, Copy)]
 pub struct RightSide;
 
 // An entry of Y, Z, T, H; h0.
+#[derive(Clone, Copy)]
 pub struct Multiplier;
 
 // k, k2, q
+#[derive(Clone, Copy)]
 pub struct Scale;
 
 // An entry of U, V, W.
+#[derive(Clone, Copy)]
 pub struct Direction;
 
 impl BodyField for RowCount {
