@@ -1,16 +1,15 @@
--- A run of values of one field, some of them known to be in range: four more of them, and what is answered of the whole run behind them.
+-- A run of values of one field, four at a time: their tests, what is answered behind them, and what is left.
 use Rattle.std.specs.Prelude.{Ok}
 use mathlib.Core.Path.{◌≡◌, refl, sym, ap, ◌∙◌}
 use Prim.Native.Nat.{ℕ, suc, ◌+◌, ◌*◌, ◌-◌, ◌≤◌, ◌<◌}
 use mathlib.Core.Bool.{Bool, true, false, ◌&&◌}
-use mathlib.Core.List.{List, [], ◌∷◌, ◌++◌}
+use mathlib.Core.List.{List, ◌∷◌, ◌++◌}
 use native.Mathlib.Omega.{arith}
 use lib.IntN.{ℤ, pos}
 use lib.ListN.{length, drop, get_or, replicate, replicate-append-replicate, length-replicate, length-drop}
-use lib.Seq.{drop-drop, drop-cons}
+use lib.Seq.{drop-cons}
 use Rattle.refusal.specs.Tests.{done}
-use Rattle.refusal.proofs.FaultLaws.{gives}
-use Rattle.refusal.proofs.TestLaws.{both_true, true_both}
+use Rattle.refusal.proofs.FaultLaws.{gives, told_given}
 use Rattle.record.specs.Fields.{width, Field, in_range}
 use Rattle.record.specs.Ranges.{within}
 use Rattle.record.proofs.Lengths.{widths_replicate}
@@ -26,15 +25,6 @@ four_tests true true true false = refl
 four_tests true true false d = refl
 four_tests true false c d = refl
 four_tests false b c d = refl
-
--- fields in two parts
-in_range-both : (fs gs : List Field) (zs : List ℤ) → length fs ≤ length zs → in_range fs zs ≡ true → in_range gs (drop (length fs) zs) ≡ true → in_range (fs ++ gs) zs ≡ true
-unfolding in_range
-in_range-both [] gs zs long first rest = rest
-in_range-both (f ∷ fs) gs [] long first rest = refl
-in_range-both (f ∷ fs) gs (z ∷ zs) long first rest =
-    let both = both_true (within f.range z) (in_range fs zs) first in
-    true_both (within f.range z) (in_range (fs ++ gs) zs) both.0 (in_range-both fs gs zs (omega arith) both.1 rest)
 
 module _ (f : Field) where
   pub in_range-none : (zs : List ℤ) → in_range (replicate 0 f) zs ≡ true
@@ -59,38 +49,50 @@ module _ (f : Field) where
       let all = first_and_rest zs index (index + 1) 3 (omega arith) (omega arith) ∙ ap (λ x. here zs index && x) from_second in
       four_tests a b c d ∙ rw (first, second, third, fourth) (sym all)
 
-  -- four more of a run
-  pub in_range-more : (zs : List ℤ) (index k next : ℕ) → index + (k + 4) ≤ length zs → next ≡ k + 4 → in_range (replicate k f) (drop index zs) ≡ true
-      → in_range (replicate 4 f) (drop (index + k) zs) ≡ true → in_range (replicate next f) (drop index zs) ≡ true
-  in_range-more zs index k next long is first rest =
-      let whole : replicate next f ≡ replicate k f ++ replicate 4 f = ap (λ n. replicate n f) is ∙ sym (replicate-append-replicate k 4 f) in
-      rw whole
-      (in_range-both (replicate k f) (replicate 4 f) (drop index zs) (omega (arith, length-replicate k f, length-drop index zs)) first
-      (rw (length-replicate k f, drop-drop k index zs) rest))
+  -- as a loop goes by fours: none so far; and the source behind some of a run, and how many are left
+  pub four_none : (s : InList) (count : ℕ) → Ok s ≡ list_answer s (replicate (count - count) f)
+  four_none s count =
+      let none : 0 ≡ count - count = omega arith in
+      list_in_parts.none s ∙ ap (λ n. list_answer s (replicate n f)) none
 
-  -- behind the head of a run that is in range
-  module _ (s : InList) (ahead count wide : ℕ) (few : ahead ≤ count) (sized : width f.form ≡ wide) (has : list_has s (replicate count f))
-      (fit : in_range (replicate ahead f) (drop s.index s.values.now) ≡ true) where
-    abbrev behind : InList
-    behind = record s { index = s.index + ahead; place = s.place + ahead * wide }
-
-    split : replicate count f ≡ replicate ahead f ++ replicate (count - ahead) f
+  module _ (s : InList) (count : ℕ) (x : InList) (left : ℕ) (few : left ≤ count)
+      (so_far : Ok x ≡ list_answer s (replicate (count - left) f)) where
+    split : replicate count f ≡ replicate (count - left) f ++ replicate left f
     split =
-        let sum : count ≡ ahead + (count - ahead) = omega arith in
-        ap (λ n. replicate n f) sum ∙ sym (replicate-append-replicate ahead (count - ahead) f)
+        let sum : count ≡ (count - left) + left = omega arith in
+        ap (λ n. replicate n f) sum ∙ sym (replicate-append-replicate (count - left) left f)
 
-    head_told : list_told (replicate ahead f) s.values.now s.index s.place ≡ done
-    unfolding list_told list_fault
-    head_told =
-        let long : length (replicate ahead f) ≤ length (drop s.index s.values.now) =
-        omega (arith, has.0, length-replicate ahead f, length-replicate count f, length-drop s.index s.values.now) in
-        fault_told-end _ _ (omega (arith, before_all (replicate ahead f) (drop s.index s.values.now) long fit))
+    -- the list stays
+    pub same_length : length x.values.now ≡ length s.values.now
+    same_length = ap (λ y. length y.values.now) (told_given (list_told (replicate (count - left) f) s.values.now s.index s.place) _ x so_far)
 
-    head : Ok behind ≡ list_answer s (replicate ahead f)
-    head = rw (length-replicate ahead f, widths_replicate ahead f, sized) (gives behind head_told)
+    pub rest_answer : list_answer x (replicate left f) ≡ list_answer s (replicate count f)
+    rest_answer = rw split (list_in_parts.on s x (replicate (count - left) f) (replicate left f) so_far)
 
-    pub rest_there : list_has behind (replicate (count - ahead) f)
-    rest_there = list_in_parts.rest s behind (replicate ahead f) (replicate (count - ahead) f) head (rw split at has)
+    module _ (has : list_has s (replicate count f)) where
+      pub rest_there : list_has x (replicate left f)
+      rest_there = list_in_parts.rest s x (replicate (count - left) f) (replicate left f) so_far (rw split at has)
 
-    pub rest_answer : list_answer behind (replicate (count - ahead) f) ≡ list_answer s (replicate count f)
-    rest_answer = rw split (list_in_parts.on s behind (replicate ahead f) (replicate (count - ahead) f) head)
+      module _ (wide : ℕ) (sized : width f.form ≡ wide) (some : 4 ≤ left) where
+        pub four_there : (x.index + 4 ≤ length x.values.now) × (x.place + 4 * wide ≤ 65536)
+        four_there =
+            let sum : left ≡ 4 + (left - 4) = omega arith in
+            let parts : replicate left f ≡ replicate 4 f ++ replicate (left - 4) f = ap (λ n. replicate n f) sum ∙ sym (replicate-append-replicate 4 (left - 4) f) in
+            let there = list_in_parts.front x (replicate 4 f) (replicate (left - 4) f) (rw parts at rest_there) in
+            let bytes = rw sized at (widths_replicate 4 f) in
+            (omega (arith, there.0, length-replicate 4 f), omega (arith, there.1, bytes))
+
+        four_told : in_range (replicate 4 f) (drop x.index x.values.now) ≡ true → list_told (replicate 4 f) x.values.now x.index x.place ≡ done
+        unfolding list_told list_fault
+        four_told fit =
+            let long : length (replicate 4 f) ≤ length (drop x.index x.values.now) = omega (arith, four_there.0, length-replicate 4 f, length-drop x.index x.values.now) in
+            fault_told-end _ _ (omega (arith, before_all (replicate 4 f) (drop x.index x.values.now) long fit))
+
+        pub four_more : in_range (replicate 4 f) (drop x.index x.values.now) ≡ true
+            → Ok (record x { index = x.index + 4; place = x.place + 4 * wide }) ≡ list_answer s (replicate (count - (left - 4)) f)
+        four_more fit =
+            let y : InList = record x { index = x.index + 4; place = x.place + 4 * wide } in
+            let one : Ok y ≡ list_answer x (replicate 4 f) = rw (widths_replicate 4 f, sized) (gives y (four_told fit)) in
+            let sum : (count - left) + 4 ≡ count - (left - 4) = omega arith in
+            one ∙ list_in_parts.on s x (replicate (count - left) f) (replicate 4 f) so_far
+            ∙ ap (list_answer s) (replicate-append-replicate (count - left) 4 f ∙ ap (λ n. replicate n f) sum)

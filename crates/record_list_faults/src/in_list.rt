@@ -1,8 +1,8 @@
 // The list of values that a record is to be written of, as a source: it is walked, and a fault's place is where the record would have it.
-// What of a run is found in range four values at a time is passed over before the walk.
+// A run goes by fours first.
 #![tactic(auto)]
 
-ghost use Rattle.std.specs.Prelude.{◌+◌, ◌≤◌, ◌<◌, ◌≡◌, true, pos, length, get_or, drop, replicate};
+ghost use Rattle.std.specs.Prelude.{◌+◌, ◌≤◌, ◌<◌, ◌≡◌, pos, length, get_or, drop, replicate};
 ghost use Rattle.record.specs.Fields.{in_range};
 ghost use Rattle.record.specs.Ranges.{within};
 ghost use Rattle.record_list_faults.specs.ListAnswers.{list_answer, list_has, list_in_parts};
@@ -47,7 +47,7 @@ impl Numbers for InList<'_> {
     }
 }
 
-// Four values, from an index on, are.
+// Each of four values, from an index on, is.
 fn four_fit<F: BodyField>(values: &[i64], index: usize) -> bool
     requires { index + 4 ≤ length values.now }
     ensures { result ≡ in_range (replicate 4 F.field) (drop index values.now) }
@@ -58,28 +58,19 @@ fn four_fit<F: BodyField>(values: &[i64], index: usize) -> bool
         & value_fits::<F>(values, index + 3)
 }
 
-// How many values at the head of a run are, as far as fours of them tell. Only a count goes from four to four.
-fn fours_fit<F: BodyField>(values: &[i64], index: usize, count: usize) -> usize
-    requires { index + count ≤ length values.now }
-    ensures at_most { result ≤ count }
-    ensures fit { in_range (replicate result F.field) (drop index values.now) ≡ true }
-{
-    for i in 0..count / 4 {
-        if !four_fit::<F>(values, index + 4 * i) {
-            return 4 * i;
-        }
-    }
-    4 * (count / 4)
-}
-
 impl Source for InList<'_> {
+    // Four at a time, while they are in range: what is left is walked.
     fn run_fault<F: BodyField>(self, count: usize) -> Result<Self, Fault> {
-        let ahead = fours_fit::<F>(self.values, self.index, count);
-        let rest = InList {
-            values: self.values,
-            index: self.index + ahead,
-            place: self.place + ahead * F::WIDE,
-        };
-        walk::<Self, F>(rest, count - ahead)
+        let mut source = self;
+        let mut left = count;
+        while 4 <= left && four_fit::<F>(source.values, source.index) {
+            source = InList {
+                values: source.values,
+                index: source.index + 4,
+                place: source.place + 4 * F::WIDE,
+            };
+            left -= 4;
+        }
+        walk::<Self, F>(source, left)
     }
 }
